@@ -4,8 +4,20 @@
 //! fault is answered only where the outside failed.
 #![tactic(auto)]
 
+mod failing;
+mod held;
+mod memory_shelf;
+mod memory_sink;
+mod room;
 mod shelf;
 mod sink;
+mod sure_shelf;
+mod sure_sink;
 
+pub use held::names_differ;
+pub use memory_shelf::MemoryShelf;
+pub use memory_sink::MemorySink;
 pub use shelf::{PutTrouble, ReadTrouble, Shelf};
 pub use sink::{Memory, Sink, SinkTrouble};
+pub use sure_shelf::SureShelf;
+pub use sure_sink::SureSink;
