@@ -21,3 +21,6 @@ pub use shelf::{PutTrouble, ReadTrouble, Shelf};
 pub use sink::{Memory, Sink, SinkTrouble};
 pub use sure_shelf::SureShelf;
 pub use sure_sink::SureSink;
+
+#[cfg(test)]
+mod tests;

@@ -126,3 +126,31 @@ impl Shelf for MemoryShelf {
         Ok(())
     }
 }
+
+#[cfg(test)]
+mod tests {
+    use super::*;
+    use std::test::Fail;
+
+    #[test]
+    fn the_last_call_that_can_fail_is_the_last_of_32_bits(rt: HostRuntime) -> Result<(), Fail> {
+        let alloc = rt.alloc();
+        for (calls, fails) in [
+            (0xffff_fffd, false),
+            (0xffff_fffe, true),
+            (0xffff_ffff, false),
+            (0x1_ffff_fffe, false),
+            (u64::MAX, false),
+        ] {
+            let mut shelf = MemoryShelf {
+                files: Vec::new(alloc),
+                failing: vec![in alloc; u32::MAX]?,
+                calls,
+                read_faults: 0,
+                put_faults: 0,
+            };
+            assert_eq!(rt; shelf.read(alloc, "a", 1).is_err(), fails, "after {calls}");
+        }
+        Ok(())
+    }
+}

@@ -104,3 +104,30 @@ impl Sink for MemorySink {
         }
     }
 }
+
+#[cfg(test)]
+mod tests {
+    use super::*;
+    use std::test::Fail;
+
+    #[test]
+    fn the_last_write_that_can_fail_is_the_last_of_32_bits(rt: HostRuntime) -> Result<(), Fail> {
+        let alloc = rt.alloc();
+        for (writes, fails) in [
+            (0xffff_fffd, false),
+            (0xffff_fffe, true),
+            (0xffff_ffff, false),
+            (0x1_ffff_fffe, false),
+            (u64::MAX, false),
+        ] {
+            let mut sink = MemorySink {
+                bytes: Vec::new(alloc),
+                failing: vec![in alloc; (u32::MAX, 0)]?,
+                writes,
+                faults: 0,
+            };
+            assert_eq!(rt; sink.write(b"").is_err(), fails, "after {writes}");
+        }
+        Ok(())
+    }
+}
