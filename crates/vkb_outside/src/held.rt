@@ -1,6 +1,7 @@
 //! Files in a list, each a name and its bytes.
-ghost use Rattle.std.specs.Prelude.{◌≡◌, ◌<◌, length, IsTrue, IsSome, MatchOption, None, slice_index_or};
-ghost use Rattle.std.specs.List.{position};
+ghost use Rattle.std.specs.Prelude.{◌≡◌, ◌≢◌, ◌↔◌, IsTrue, IsSome};
+ghost use Rattle.std.specs.List.{position, AllPairs};
+ghost use Rattle.std.specs.Map.{keys_of};
 ghost use Rattle.std.specs.Str.{bytes_eq};
 ghost use Rattle.std.specs.String.{string_bytes};
 ghost use Rattle.vkb_outside.specs.Held.{held, names_differ, file_at, with_file, IsAnswer};
@@ -10,7 +11,8 @@ use std::alloc::Global;
 
 /// Whether no two files have one name. It compares each name with all later ones.
 pub fn names_differ(files: &[(String, Vec<u8>)]) -> bool
-    ensures { result ≡ names_differ (held files.now) }
+    ensures value { result ≡ names_differ (held files.now) }
+    ensures meaning { IsTrue result ↔ AllPairs (λ a b. a ≢ b) (keys_of (held files.now)) }
 {
     for (place, (name, _)) in files.iter().enumerate() {
         if place_of(&files[place + 1..], name.as_str()).is_some() {

@@ -1,7 +1,7 @@
 //! What the program reads, puts and writes: files by name on a shelf, and bytes into a sink.
 //!
 //! Both are traits with a written meaning, so that a contract of the code above can say what was read, put and written, and that a
-//! fault is answered only where the outside failed.
+//! fault is answered only where the outside failed. The shelves and sinks here are in memory, and two of them fail when they are told to.
 #![tactic(auto)]
 
 mod failing;

@@ -1,4 +1,4 @@
-ghost use Rattle.std.specs.Prelude.{◌≡◌, ◌<◌, ◌^◌, ℕ, [], ◌↔◌, Some, IsTrue, IsSome, IsErr};
+ghost use Rattle.std.specs.Prelude.{◌≡◌, ◌<◌, ◌^◌, ◌↔◌, Some, IsTrue, IsSome, IsErr};
 ghost use Rattle.std.specs.Bool.{OnTrue, OnFalse};
 ghost use Rattle.vkb_outside.specs.Held.{held, names_differ, file_at, IsAnswer};
 ghost use Rattle.vkb_outside.specs.MemoryShelf.{fails, after_read, after_put};
@@ -28,11 +28,11 @@ impl Model for MemoryShelf {
     ghost Value = { FailingFiles };
 
     ghost view = { λ s. record {
-        files = held s.files.items;
-        failing = s.failing.items;
-        calls = s.calls;
-        read_faults = s.read_faults;
-        put_faults = s.put_faults;
+      files = held s.files.items;
+      failing = s.failing.items;
+      calls = s.calls;
+      read_faults = s.read_faults;
+      put_faults = s.put_faults;
     } };
 
     ghost invariant = { λ s. (s.read_faults + s.put_faults ≤ s.calls) × IsTrue (names_differ (held s.files.items)) };
@@ -44,11 +44,11 @@ impl MemoryShelf {
     pub fn new(files: Vec<(String, Vec<u8>)>, failing: Vec<u32>) -> MemoryShelf
         requires { IsTrue (names_differ (held files.items)) }
         ensures { result ≡ record {
-            files = held files.items;
-            failing = failing.items;
-            calls = 0;
-            read_faults = 0;
-            put_faults = 0;
+          files = held files.items;
+          failing = failing.items;
+          calls = 0;
+          read_faults = 0;
+          put_faults = 0;
         } }
     {
         MemoryShelf {
@@ -70,19 +70,14 @@ impl MemoryShelf {
 }
 
 impl Shelf for MemoryShelf {
-    ghost holds = { λ s. Some (λ name. file_at s.files name) };
+    ghost holds = { λ s. Some (file_at s.files) };
 
     ghost read_faults = { λ s. s.read_faults };
 
     ghost put_faults = { λ s. s.put_faults };
 
-    fn read(
-        &mut self,
-        alloc: Global,
-        name: &str,
-        most: u32,
-    ) -> Result<Option<Vec<u8>>, ReadTrouble>
-        ensures read { Reads (λ name. file_at self.old.files name) name.now most result }
+    fn read(&mut self, alloc: Global, name: &str, most: u32) -> Result<Option<Vec<u8>>, ReadTrouble>
+        ensures read { Reads (file_at self.old.files) name.now most result }
         ensures within { IsWithin most result }
         ensures kept { self.new.files ≡ self.old.files }
         ensures counted { CountsRead self.old.read_faults self.new.read_faults result }
@@ -106,7 +101,7 @@ impl Shelf for MemoryShelf {
 
     fn put(&mut self, name: &str, bytes: Vec<u8>) -> Result<(), PutTrouble>
         requires { IsSome (file_at self.old.files name.now) }
-        ensures put { Puts name.now bytes.items result (Some (λ name. file_at self.old.files name)) (Some (λ name. file_at self.new.files name)) }
+        ensures put { Puts name.now bytes.items result (Some (file_at self.old.files)) (Some (file_at self.new.files)) }
         ensures counted { CountsPut self.old.put_faults self.new.put_faults result }
         ensures reads { self.new.read_faults ≡ self.old.read_faults }
 

@@ -1,4 +1,4 @@
-ghost use Rattle.std.specs.Prelude.{◌≡◌, ◌≤◌, ◌<◌, ◌^◌, ◌↔◌, ℕ, [], Some, length, IsSome, IsOk, IsErr, OnOk, OnErr};
+ghost use Rattle.std.specs.Prelude.{◌≡◌, ◌≤◌, ◌<◌, ◌^◌, ◌↔◌, [], Some, length, IsSome, IsOk, IsErr, OnOk, OnErr};
 ghost use Rattle.vkb_outside.specs.MemorySink.{fault_of, after_write};
 ghost use Rattle.vkb_outside.specs.Sink.{Writes, CountsWrite};
 
@@ -25,11 +25,11 @@ impl Model for MemorySink {
     ghost Value = { FailingOutput };
 
     ghost view = { λ s. record {
-        bytes = s.bytes.items;
-        spare = vec_capacity s.bytes - vec_len s.bytes;
-        failing = s.failing.items;
-        writes = s.writes;
-        faults = s.faults;
+      bytes = s.bytes.items;
+      spare = vec_capacity s.bytes - vec_len s.bytes;
+      failing = s.failing.items;
+      writes = s.writes;
+      faults = s.faults;
     } };
 
     ghost invariant = { λ s. s.faults ≤ s.writes };

@@ -1,4 +1,4 @@
-ghost use Rattle.std.specs.Prelude.{◌≡◌, ℕ, [], Some, IsTrue, IsSome, IsOk};
+ghost use Rattle.std.specs.Prelude.{◌≡◌, Some, IsTrue, IsSome, IsOk};
 ghost use Rattle.vkb_outside.specs.Held.{held, names_differ, file_at, with_file, IsAnswer};
 ghost use Rattle.vkb_outside.specs.Shelf.{Reads, IsWithin, CountsRead, Puts, CountsPut};
 
@@ -43,19 +43,14 @@ impl SureShelf {
 }
 
 impl Shelf for SureShelf {
-    ghost holds = { λ s. Some (λ name. file_at s name) };
+    ghost holds = { λ s. Some (file_at s) };
 
     ghost read_faults = { λ s. 0 };
 
     ghost put_faults = { λ s. 0 };
 
-    fn read(
-        &mut self,
-        alloc: Global,
-        name: &str,
-        most: u32,
-    ) -> Result<Option<Vec<u8>>, ReadTrouble>
-        ensures read { Reads (λ name. file_at self.old name) name.now most result }
+    fn read(&mut self, alloc: Global, name: &str, most: u32) -> Result<Option<Vec<u8>>, ReadTrouble>
+        ensures read { Reads (file_at self.old) name.now most result }
         ensures within { IsWithin most result }
         ensures kept { self.new ≡ self.old }
         ensures counted { CountsRead 0 0 result }
@@ -66,7 +61,7 @@ impl Shelf for SureShelf {
 
     fn put(&mut self, name: &str, bytes: Vec<u8>) -> Result<(), PutTrouble>
         requires { IsSome (file_at self.old name.now) }
-        ensures put { Puts name.now bytes.items result (Some (λ name. file_at self.old name)) (Some (λ name. file_at self.new name)) }
+        ensures put { Puts name.now bytes.items result (Some (file_at self.old)) (Some (file_at self.new)) }
         ensures counted { CountsPut 0 0 result }
         ensures sure { IsOk result }
         ensures shelf { self.new ≡ with_file self.old name.now bytes.items }

@@ -1,4 +1,4 @@
-ghost use Rattle.std.specs.Prelude.{◌≡◌, ◌≤◌, ℕ, [], Some, length, IsOk, OnOk, OnErr};
+ghost use Rattle.std.specs.Prelude.{◌≡◌, ◌≤◌, [], Some, length, IsOk, OnOk, OnErr};
 ghost use Rattle.vkb_outside.specs.Sink.{Writes, CountsWrite};
 ghost use Rattle.vkb_outside.specs.SureSink.{after_write};
 

@@ -32,7 +32,10 @@ fn a_sure_shelf_reads_and_puts(rt: HostRuntime) -> Result<(), Fail> {
     shelf.put("a.adoc", b"z".to_vec(alloc)?)?;
     let bytes = shelf.read(alloc, "a.adoc", 3)?.ok_or("not found")?;
     assert_eq!(rt; bytes.as_slice(), b"z".as_slice());
-    assert_eq!(rt; shelf.read(alloc, "vk.xml", 10).err(), Some(ReadTrouble::TooLong));
+    assert_eq!(rt;
+        shelf.read(alloc, "vk.xml", 10).err(),
+        Some(ReadTrouble::TooLong)
+    );
     assert!(rt; shelf.read(alloc, "A.adoc", 10)?.is_none());
     assert_eq!(rt; shelf.files().len(), 2);
     Ok(())
@@ -46,13 +49,21 @@ fn the_calls_of_a_shelf_fail_by_number(rt: HostRuntime) -> Result<(), Fail> {
     let mut shelf = MemoryShelf::new(files, vec![in alloc; 5, 2]?);
     let bytes = shelf.read(alloc, "a.adoc", 3)?.ok_or("not found")?;
     assert_eq!(rt; bytes.as_slice(), b"abc".as_slice());
-    assert_eq!(rt; shelf.read(alloc, "a.adoc", 3).err(), Some(ReadTrouble::Failed));
-    assert_eq!(rt; shelf.read(alloc, "a.adoc", 2).err(), Some(ReadTrouble::TooLong));
+    assert_eq!(rt;
+        shelf.read(alloc, "a.adoc", 3).err(),
+        Some(ReadTrouble::Failed)
+    );
+    assert_eq!(rt;
+        shelf.read(alloc, "a.adoc", 2).err(),
+        Some(ReadTrouble::TooLong)
+    );
     assert!(rt; shelf.read(alloc, "a", 9)?.is_none());
 
     assert_eq!(rt; shelf.put("a.adoc", b"z".to_vec(alloc)?), Err(PutTrouble));
-    for ((name, bytes), (wanted_name, wanted)) in
-        shelf.files().iter().zip([("a.adoc", 3), ("vk.xml", 11)])
+    for ((name, bytes), (wanted_name, wanted)) in shelf
+        .files()
+        .iter()
+        .zip([("a.adoc", 3), ("vk.xml", 11)])
     {
         assert_eq!(rt; name.as_str(), wanted_name);
         assert_eq!(rt; bytes.len(), wanted);

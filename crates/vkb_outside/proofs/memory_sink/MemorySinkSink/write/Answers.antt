@@ -1,4 +1,4 @@
-use Rattle.std.proofs.Common.{◌≡◌, List, false, IsSome, Option, None, Bool, true, take, drop, arith, rules}
+use Rattle.std.proofs.Common.{◌≡◌, false, None, true, take, drop, arith, rules}
 use Rattle.std.proofs.lemmas.Grind.{common_steps}
 use Rattle.vkb_outside.specs.MemorySink.{fault_of}
 use Rattle.vkb_outside.proofs.memory_sink.MemorySinkSink.write.Goals as goal
