@@ -67,6 +67,7 @@ impl Sink for MemorySink {
     fn ready(&mut self, count: usize) -> Result<(), Memory>
         ensures room { OnOk result (count ≤ self.new.spare) }
         ensures kept { self.new.bytes ≡ self.old.bytes }
+        ensures same { OnErr result (self.new.spare ≡ self.old.spare) }
         ensures counted { self.new.faults ≡ self.old.faults }
 
         // Nothing but the room changes, and that doesn't shrink.

@@ -1,4 +1,4 @@
-ghost use Rattle.std.specs.Prelude.{◌≡◌, ℕ, ◌≤◌, List, length, Option, OnOk};
+ghost use Rattle.std.specs.Prelude.{◌≡◌, ℕ, ◌≤◌, List, length, Option, OnOk, OnErr};
 ghost use Rattle.vkb_outside.specs.Sink.{Writes, CountsWrite};
 
 use thiserror::Error;
@@ -28,6 +28,7 @@ pub trait Sink {
     fn ready(&mut self, count: usize) -> Result<(), Memory>
         ensures room { OnOk result (count ≤ spare self.new) }
         ensures kept { written self.new ≡ written self.old }
+        ensures same { OnErr result (spare self.new ≡ spare self.old) }
         ensures counted { faults self.new ≡ faults self.old };
 
     /// Appends the bytes, and takes no memory. After an error a prefix of them was appended.

@@ -51,6 +51,7 @@ impl Sink for SureSink {
     fn ready(&mut self, count: usize) -> Result<(), Memory>
         ensures room { OnOk result (count ≤ self.new.spare) }
         ensures kept { self.new.bytes ≡ self.old.bytes }
+        ensures same { OnErr result (self.new.spare ≡ self.old.spare) }
 
         // The room doesn't shrink.
         ensures grows { self.old.spare ≤ self.new.spare }
