@@ -1,0 +1,10 @@
+pub mod TallyLemmas
+pub mod WordsLemmas
+pub mod LinesLemmas
+pub mod FaultsLemmas
+pub mod MarksLemmas
+pub mod SearchLemmas
+pub mod VerdictLemmas
+pub mod TextLemmas
+pub mod OutcomeLemmas
+pub mod EndingsLemmas

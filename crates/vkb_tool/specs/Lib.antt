@@ -1,0 +1,12 @@
+pub mod Words
+pub mod Lines
+pub mod Pieces
+pub mod Verdict
+pub mod Report
+pub mod Outcome
+pub mod Endings
+pub mod Tally
+pub mod Search
+pub mod Answer
+pub mod Fault
+pub mod Status

@@ -1,0 +1,43 @@
+-- The words of a request, and where words that are none stop being the words of one.
+use Rattle.std.specs.Prelude.{◌≡◌, ◌≢◌, ℕ, ◌+◌, ◌-◌, ◌≤◌, List, [], ◌∷◌, ◌++◌, length, take, map, slice_get, Some, codes, Vec, ⊤}
+use Rattle.std.specs.declared.alloc.Global.{Global}
+use Rattle.std.specs.Str.{IsUtf8}
+use Rattle.vkb_tool.specs.declared.words.Request.{Request}
+use Rattle.vkb_tool.specs.declared.words.Request.TheVariants.{Check}
+use Rattle.vkb_tool.specs.declared.words.WordFault.{WordFault}
+use Rattle.vkb_tool.specs.declared.words.WordFault.TheVariants.{Usage, Memory}
+
+-- a file's name: text in UTF-8 that isn't empty
+pub record IsFileName (name : List ℕ) : Type 0 where
+  pub some : name ≢ []
+  pub text : IsUtf8 name
+
+-- a file's name stands at an index, from 0
+abbrev pub IsNamed : List (List ℕ) → ℕ → List ℕ → Type 0
+IsNamed words at name = (slice_get words at ≡ Some name) × IsFileName name
+
+-- the words that ask for a request
+abbrev pub Spells : List (List ℕ) → Request → Type 0
+Spells words (Check root) = IsFileName root × (words ≡ codes "check" ∷ codes "-" ∷ root ∷ codes "-" ∷ [])
+
+-- some request begins with these words
+abbrev pub IsFront : List (List ℕ) → Type 0
+IsFront words = (more : List (List ℕ)) × (request : Request) × Spells (words ++ more) request
+
+-- The words are no request, and the one at this position, from 1, is the first that has no place: some request begins with
+-- the words before it, and none with it too. Where only words are missing, the position is one past the last word.
+pub record IsMisplaced (words : List (List ℕ)) (position : ℕ) : Type 0 where
+  pub from_one : 1 ≤ position
+  pub within : position ≤ length words + 1
+  pub before : IsFront (take (position - 1) words)
+  pub here : position ≤ length words → ¬ (IsFront (take position words))
+  pub none : (request : Request) → ¬ (Spells words request)
+
+-- what is told of words that weren't read
+abbrev pub IsWordFault : List (List ℕ) → WordFault → Type 0
+IsWordFault words (Usage position) = IsMisplaced words position
+IsWordFault words Memory = ⊤
+
+-- the bytes of each word
+abbrev pub items_of : List (Vec ℕ Global) → List (List ℕ)
+items_of words = map (λ word. word.items) words

@@ -1,0 +1,26 @@
+//! What a run of `vkbuild` does: it reads the words of a request, reads the files that are asked for, and answers with a report.
+#![tactic(auto)]
+
+mod anchors;
+mod answer;
+mod check;
+mod fault;
+mod laws;
+mod lines;
+mod memory;
+mod program;
+mod report;
+mod search;
+mod status;
+mod tally;
+mod verdict;
+mod words;
+
+pub use laws::{lines_join, one_reading};
+pub use memory::Memory;
+pub use program::run;
+pub use status::Status;
+pub use words::{Request, WordFault, read_words};
+
+#[cfg(test)]
+mod tests;
