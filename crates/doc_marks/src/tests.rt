@@ -105,7 +105,7 @@ fn longest_id(line: &[u8]) -> usize
 fn the_theorem_on_marks_is_a_call(rt: HostRuntime) {
     let line = b"<<a>> [[b]]";
     marks_follow_the_rule(line);
-    assert!(rt; holds(line, &[(0, b"a", false), (8, b"b", true)]));
+    assert!(rt; holds(line, &[(0, b"a", false), (6, b"b", true)]));
 }
 
 #[test]
