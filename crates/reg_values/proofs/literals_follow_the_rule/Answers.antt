@@ -1,0 +1,8 @@
+use Rattle.reg_values.proofs.SpellingLemmas.{literal_from, from_literal, one_value}
+use Rattle.reg_values.proofs.literals_follow_the_rule.Goals as goal
+
+pub returns-clause-spelled : goal.returns-clause-spelled
+returns-clause-spelled c = λ value. (literal_from c.args.text.now value, from_literal c.args.text.now value)
+
+pub returns-clause-unique : goal.returns-clause-unique
+returns-clause-unique c = one_value c.args.text.now
