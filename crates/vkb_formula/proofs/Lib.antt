@@ -1,0 +1,11 @@
+pub mod NameLemmas
+pub mod FormulaLemmas
+pub mod PoolLemmas
+pub mod MadeLemmas
+pub mod TreeLemmas
+pub mod PoolValueLemmas
+pub mod RunLemmas
+pub mod FrontLemmas
+pub mod BuildLemmas
+pub mod MeaningLemmas
+pub mod ReachLemmas

@@ -1,0 +1,11 @@
+use Rattle.vkb_formula.proofs.MadeLemmas.{unfolded-push}
+use Rattle.vkb_formula.proofs.ReachLemmas.{formulas-stay, sum_reached-old, sum_reached-last}
+use Rattle.vkb_formula.proofs.pool.nodes_keep_their_meaning.Goals as goal
+
+pub returns : goal.returns
+returns c = record {
+  formulas = formulas-stay;
+  next = unfolded-push;
+  sums = sum_reached-old;
+  shared = sum_reached-last;
+}

@@ -1,0 +1,22 @@
+//! Names and where they stand, formulas over options, the `depends` expressions of the Vulkan registry, and pools of
+//! shared formulas.
+#![tactic(auto)]
+
+mod building;
+mod depends;
+mod formula;
+mod mark;
+mod memory;
+mod name_set;
+mod name_table;
+mod pool;
+
+pub use depends::{ExprFault, read_depends, words_of};
+pub use formula::{Formula, all, any, not};
+pub use memory::Memory;
+pub use name_set::NameSet;
+pub use name_table::{NameFault, NameId, NameTable};
+pub use pool::{NodeId, Pool, PoolNode, nodes_keep_their_meaning};
+
+#[cfg(test)]
+mod tests;
