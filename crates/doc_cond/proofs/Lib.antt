@@ -1,0 +1,11 @@
+pub mod Fronts
+pub mod Pieces
+pub mod PathPieces
+pub mod Naming
+pub mod Families
+pub mod Cuts
+pub mod Targets
+pub mod Uniqueness
+pub mod Counting
+pub mod Ascii
+pub mod Ends
