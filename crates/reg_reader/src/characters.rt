@@ -1,0 +1,52 @@
+ghost use Rattle.std.specs.Prelude.{◌≡◌, ◌+◌, ◌<◌, ◌^◌, IfOk, length};
+ghost use Rattle.reg_reader.specs.Markup.{HasCharacters, AreCharactersOf};
+ghost use Rattle.reg_reader.specs.Characters.{with_byte};
+ghost use Rattle.reg_reader.specs.Within.{Within};
+
+use crate::markup::{Memory, Part};
+use crate::reference::{Progress, progress_of};
+use std::alloc::Global;
+
+/// Puts what the byte at a place stands for behind a text, and says where the reference begins that is then open.
+fn put_byte(
+    bytes: &[u8],
+    n: u32,
+    reference: Option<u32>,
+    text: &mut Vec<u8>,
+) -> Result<Option<u32>, Memory>
+    requires within { n < length bytes.now }
+    requires place { Within reference n }
+    ensures open { IfOk result (λ next. next ≡ (with_byte bytes.now n reference text.old.items).0) }
+    ensures text { IfOk result (λ next. text.new.items ≡ (with_byte bytes.now n reference text.old.items).1) }
+    ensures place { IfOk result (λ next. Within next (n + 1)) }
+{
+    let Some(place) = reference else {
+        let byte = bytes[n as usize];
+        if byte == b'&' {
+            return Ok(Some(n));
+        }
+        text.push(byte)?;
+        return Ok(None);
+    };
+    match progress_of(&bytes[place as usize..n as usize + 1]) {
+        Progress::Whole(value) => {
+            text.push(value)?;
+            Ok(None)
+        }
+        Progress::Partial | Progress::Wrong => Ok(Some(place)),
+    }
+}
+
+/// The bytes that characters stand for.
+pub fn undo(alloc: Global, bytes: &[u8], part: Part) -> Result<Vec<u8>, Memory>
+    requires part { HasCharacters bytes.now part }
+    requires small { length bytes.now < 2 ^ 32 }
+    ensures { IfOk result (λ text. AreCharactersOf bytes.now part text.items) }
+{
+    let mut text = Vec::new(alloc);
+    let mut reference = None;
+    for n in part.from..part.to {
+        reference = put_byte(bytes, n, reference, &mut text)?;
+    }
+    Ok(text)
+}
