@@ -68,13 +68,16 @@ reach-All parts = ap reach_of (sym (rolls-All parts)) ∙ fold-roll-Formula ℕ 
 pub reach-Any : (parts : List Formula) → reach_of (Any parts) ≡ greatest (map reach_of parts)
 reach-Any parts = ap reach_of (sym (rolls-Any parts)) ∙ fold-roll-Formula ℕ node_reach (Formula-F.Any parts)
 
+pub reach-Never : reach_of Never ≡ 0
+reach-Never = fold-Never node_reach
+
 -- a part reaches no further than all of them
 pub reach-part : (parts : List Formula) (i : ℕ) (d : Formula) → i < length parts → reach_of (get_or parts i d) ≤ greatest (map reach_of parts)
 reach-part [] i d h = absurd (omega arith)
 reach-part (f ∷ fs) zero d h = omega arith
 reach-part (f ∷ fs) (suc i) d h = omega (arith, reach-part fs i d (omega arith))
 
-pub ruleset formula_facts = (value-All, value-Any, size-All, size-Any, variables-All, variables-Any, clauses-All, clauses-Any)
+pub ruleset formula_facts = (value-All, value-Any, size-All, size-Any, variables-All, variables-Any, clauses-All, clauses-Any, reach-Never)
 
 -- an item of the parts reaches no further than all of them
 pub reach-item : (parts : List Formula) (i : ℕ) (part : Formula) (n : ℕ) → part ≡ get_or parts i part → i < length parts → greatest (map reach_of parts) ≤ n → reach_of part ≤ n

@@ -1,9 +1,9 @@
 -- What the reader has read can be gone on with: it is the front of an expression.
-use Rattle.std.proofs.Common.{◌≡◌, ℕ, zero, suc, ◌+◌, ◌-◌, ◌<◌, ◌≤◌, Bool, true, false, cond, ltb, eqb, ◌&&◌, ◌||◌, List, [], ◌∷◌, ◌++◌, length, take, drop, get_or, replicate, Option, Some, None, refl, sym, ap, subst, ◌∙◌, ◌⊎◌, inl, inr, ⊎_elim, arith}
+use Rattle.std.proofs.Common.{◌≡◌, ℕ, zero, suc, ◌+◌, ◌-◌, ◌<◌, ◌≤◌, Bool, true, false, cond, ltb, eqb, ◌&&◌, ◌||◌, List, [], ◌∷◌, ◌++◌, length, take, drop, get_or, replicate, Option, Some, None, refl, sym, ap, subst, ◌∙◌, ◌⊎◌, inl, inr, ⊎_elim, ◌↔◌, arith}
 use Rattle.std.specs.Option.{option_and_then}
 use Rattle.std.specs.List.{list_all}
-use Rattle.std.proofs.lemmas.List.{append_assoc, append-nil, take-append-drop, take_more, get_or_default, take_all}
-use Rattle.std.proofs.lemmas.Bool.{and_parts, or_cases, ltb-true, eqb-true, and_from, false≢true}
+use Rattle.std.proofs.lemmas.List.{append_assoc, append-nil, take-append-drop, take_more, get_or_default, take_all, take-take}
+use Rattle.std.proofs.lemmas.Bool.{and_parts, or_cases, ltb-true, eqb-true, and_from, false≢true, cases_lt}
 use Rattle.vkb_bytes.specs.Bytes.{is_word_byte}
 use Rattle.vkb_formula.specs.Expressions.{Atom, Expression, Name, Group, Single, Both, Either, IsWord, IsMember, IsName, IsAtom, IsExpression, atom_text, expression_text, atom_nesting, nesting_of, atom_words, words_in, Spells, IsFront, IsNoExpression, IsStop}
 use Rattle.vkb_formula.specs.Marks.{after_atom, step_from, step, run, start, ends_atom, is_whole}
@@ -252,6 +252,18 @@ done-whole p w x = (
 -- what a front begins with is a front
 pub front-prefix : (p q : List ℕ) → IsFront (p ++ q) → IsFront p
 front-prefix p q f = (q ++ f.0, f.1, subst (Spells f.1) (append_assoc p q f.0) f.2)
+
+front-take : (text : List ℕ) (m n : ℕ) → m ≤ n → IsFront (take n text) → IsFront (take m text)
+front-take text m n le f =
+    front-prefix (take m text) (drop m (take n text))
+    (subst IsFront (sym (take-append-drop m (take n text)) ∙ ap (λ p. p ++ drop m (take n text)) (take-take m n text le)) f)
+
+-- the fronts among what a text begins with are those that are no longer than where it stops
+pub stop-fronts : (text : List ℕ) (at n : ℕ) → IsStop text at → n ≤ length text → IsFront (take n text) ↔ (n ≤ at)
+stop-fronts text at n s le = (
+  λ f. ⊎_elim (λ past. absurd (s.last (omega arith) (front-take text (at + 1) n (omega arith) f))) (λ up. up) (cases_lt at n),
+  λ up. front-take text n at up s.front,
+)
 
 -- read to within a name
 record Within (Part : List ℕ → Type 0) (p : List ℕ) (d w : ℕ) : Type 0 where

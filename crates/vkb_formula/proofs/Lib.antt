@@ -8,4 +8,5 @@ pub mod RunLemmas
 pub mod FrontLemmas
 pub mod BuildLemmas
 pub mod MeaningLemmas
+pub mod ParseLemmas
 pub mod ReachLemmas

@@ -88,6 +88,17 @@ place_of-last name (n ∷ ns) e =
     ap (λ b. cond b (Some 0) (option_map (λ k. k + 1) (place_of name (ns ++ name ∷ [])))) parts.0
     ∙ ap (option_map (λ k. k + 1)) (place_of-last name ns parts.1) ∙ ap Some (let next : length ns + 1 ≡ suc (length ns) = omega arith in next)
 
+stays-at : (b : Bool) (o p : Option ℕ) → ((k : ℕ) → o ≡ Some k → p ≡ Some k) → (i : ℕ) → cond b (Some 0) (option_map (λ k. k + 1) o) ≡ Some i → cond b (Some 0) (option_map (λ k. k + 1) p) ≡ Some i
+stays-at true o p h i e = e
+stays-at false None p h i e = absurd (cc)
+stays-at false (Some k) p h i e = ap (option_map (λ j. j + 1)) (h k refl) ∙ e
+
+-- a name keeps its place when another is put last
+pub place_of-stays : (other name : List ℕ) (names : List (List ℕ)) (i : ℕ) → place_of other names ≡ Some i → place_of other (names ++ name ∷ []) ≡ Some i
+place_of-stays other name [] i e = absurd (cc)
+place_of-stays other name (n ∷ ns) i e =
+    stays-at (is_same_name other n) (place_of other ns) (place_of other (ns ++ name ∷ [])) (place_of-stays other name ns) i e
+
 module _ {X : Type 0} (bytes : X → List ℕ) where
   -- std's words on a new name
   pub new-name : (k : X) (ks : List X) → place_of (bytes k) (map bytes ks) ≡ None → (list_any (λ x. is_same_name (bytes k) (bytes x)) ks ≡ false) × (position_or_len (λ x. is_same_name (bytes k) (bytes x)) ks ≡ length ks)

@@ -1,6 +1,7 @@
 -- The values of a pool's nodes at a set.
-use Rattle.std.proofs.Common.{◌≡◌, ℕ, zero, suc, ◌+◌, ◌<◌, ◌≤◌, Bool, true, false, not, ◌&&◌, ◌||◌, List, [], ◌∷◌, ◌++◌, length, map, take, Some, get_or, slice_index_or, All, refl, sym, ap, subst, ◌∙◌, arith}
+use Rattle.std.proofs.Common.{◌≡◌, ℕ, zero, suc, ◌+◌, ◌<◌, ◌≤◌, Bool, true, false, not, ◌&&◌, ◌||◌, List, [], ◌∷◌, ◌++◌, length, map, take, Some, get_or, slice_index_or, All, Result, Ok, Err, Vec, IfOk, refl, sym, ap, subst, ◌∙◌, arith}
 use Rattle.std.specs.List.{list_all, list_any}
+use Rattle.std.specs.Global.{Global}
 use Rattle.std.proofs.lemmas.List.{take_more, length-map, length-take-le, map_push, get_or-map}
 use Rattle.std.proofs.lemmas.Option.{slice_get-get_or}
 use Rattle.vkb_formula.specs.Formulas.{value_of, node_value}
@@ -57,6 +58,11 @@ module _ (set : List Bool) where
       ∙ sym (map_push (value_of set) made (formula_at made n))
       ∙ ap (map (value_of set)) (sym (unfolded-push (take i nodes) n))
       ∙ ap (λ ns. map (value_of set) (unfolded ns)) (ap (λ x. take i nodes ++ x ∷ []) is ∙ sym (take_more nodes i n h))
+
+-- there are as many values as nodes
+pub values-count : {E : Type 0} (set : List Bool) (nodes now : List PoolNode) (r : Result (Vec Bool Global) E) → nodes ≡ now → IfOk r (λ values. values.items ≡ map (value_of set) (unfolded nodes)) → IfOk r (λ values. length values.items ≡ length now)
+values-count set nodes now (Err e) same h = tt
+values-count set nodes now (Ok values) same h = ap length h ∙ length-map (unfolded nodes) (value_of set) ∙ length-unfolded nodes ∙ ap length same
 
 -- the parts of a node have values when it is reached
 pub parts-before : (nodes : List PoolNode) (i : ℕ) (n : PoolNode) (set values : List Bool) → IsPool nodes → n ≡ get_or nodes i n → i < length nodes → values ≡ map (value_of set) (unfolded (take i nodes)) → All (λ part. part < length values) (parts_of n)

@@ -1,11 +1,10 @@
 -- What a node reaches, and the sums over it, when nodes are put after it or on it.
-use Rattle.std.proofs.Common.{◌≡◌, ℕ, zero, suc, ◌+◌, ◌<◌, ◌≤◌, Bool, true, false, cond, eqb, ◌||◌, List, [], ◌∷◌, ◌++◌, length, get_or, slice_get, slice_index_or, sum_by, Option, Some, refl, sym, ap, subst, ◌∙◌, ◌⊎◌, inl, inr, ⊎_elim, arith}
+use Rattle.std.proofs.Common.{◌≡◌, ℕ, ◌+◌, ◌<◌, ◌≤◌, Bool, true, false, cond, eqb, ◌||◌, List, [], ◌∷◌, ◌++◌, length, get_or, slice_get, slice_index_or, sum_by, Some, refl, sym, ap, subst, ◌∙◌, ⊎_elim, arith}
 use Rattle.std.specs.List.{list_any}
 use Rattle.std.proofs.lemmas.List.{length_push, get_or_append_left, get_or_at, get_or_past}
 use Rattle.std.proofs.lemmas.List.Sums.{sum_by-cons}
-use Rattle.std.proofs.lemmas.Bool.{cases_order, or_cases, or_left, or_right, eqb-true, true≢false, false_from_ne_true, cases_Bool, cond_both}
+use Rattle.std.proofs.lemmas.Bool.{cases_order, or_cases, eqb-true, true≢false, false_from_ne_true, cases_Bool, cond_both}
 use Rattle.std.proofs.lemmas.Option.{slice_get-get_or}
-use Rattle.vkb_formula.specs.declared.formula.Formula.{Formula}
 use Rattle.vkb_formula.specs.declared.formula.Formula.TheVariants as formula
 use Rattle.vkb_formula.specs.declared.pool.PoolNode.{PoolNode}
 use Rattle.vkb_formula.specs.Pools.{parts_of, made_from, unfolded, reached_at, reaches, sum_where, sum_reached}

@@ -1,4 +1,5 @@
--- How the formula of an expression is put together, byte by byte.
+-- How the formula of an expression is put together, byte by byte: for private contracts alone. No public contract
+-- names it.
 use Rattle.std.specs.Prelude.{ℕ, ◌+◌, ◌-◌, Bool, ◌||◌, ◌==◌, List, [], ◌∷◌, ◌++◌, length, take, slice_index_or, fold, Option, Some, None, unwrap_or, slice_range, if◌then◌else◌}
 use Rattle.vkb_bytes.specs.Bytes.{is_word_byte}
 use Rattle.vkb_formula.specs.Expressions.{formula_of_name}

@@ -1,5 +1,7 @@
--- The expressions of the attribute `depends` of the Vulkan API registry (the registry manual, `registry.html`): what
--- spells them, and what they say. `+` is and, `,` is or; both bind alike and group from the left.
+-- The expressions of the attribute `depends` of the Vulkan API registry: what spells them, and what they say. The
+-- registry manual, `registry.html`, has names, `+` for and, `,` for or, and parentheses. This tool's own are the rest:
+-- `+` and `,` bind alike and group from the left, parentheses nest at most 64 deep, there are at most 4,096 names, and
+-- `word::word` names a structure's member.
 use Rattle.std.specs.Prelude.{◌≡◌, ℕ, ◌+◌, ◌*◌, ◌<◌, ◌≤◌, max, Bool, true, ◌&&◌, ◌||◌, List, [], ◌∷◌, ◌++◌, length, take, Option, Some, None, slice_index_or, false, ◌⊎◌}
 use Rattle.std.specs.List.{list_all}
 use Rattle.vkb_bytes.specs.Bytes.{is_word_byte}
@@ -75,7 +77,8 @@ abbrev mutual
   words_in (Both left atom) = words_in left + atom_words atom
   words_in (Either left atom) = words_in left + atom_words atom
 
--- The text spells the expression: parentheses nest at most 64 deep, and there are at most 4,096 words.
+-- The text spells the expression: parentheses nest at most 64 deep, and there are at most 4,096 names, a member being
+-- one.
 pub record Spells (e : Expression) (text : List ℕ) : Type 0 where
   pub named : IsExpression e
   pub is : text ≡ expression_text e

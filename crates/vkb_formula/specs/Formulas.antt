@@ -55,7 +55,8 @@ node_variables (Formula-F.Not part) = part
 node_variables (Formula-F.All parts) = 1 + sum parts
 node_variables (Formula-F.Any parts) = 1 + sum parts
 
--- how many variables its clauses have besides its own: one for each node but a variable and a negation
+-- how many variables its clauses have besides its own, when it is put into clauses with a variable for each `All`, `Any`
+-- and constant (Tseitin's form)
 abbrev pub variables_of : Formula → ℕ
 variables_of = fold-Formula ℕ node_variables
 
@@ -67,6 +68,7 @@ node_clauses (Formula-F.Not part) = part
 node_clauses (Formula-F.All parts) = length parts + 1 + sum parts
 node_clauses (Formula-F.Any parts) = length parts + 1 + sum parts
 
--- how many clauses tell of each node what its parts make it: one for a constant, and one more than the parts for an `All` or an `Any`
+-- how many clauses it is put into with a variable for each `All`, `Any` and constant (Tseitin's form): they tell of each
+-- node what its parts make it, one for a constant, and one more than the parts for an `All` or an `Any`
 abbrev pub clauses_of : Formula → ℕ
 clauses_of = fold-Formula ℕ node_clauses

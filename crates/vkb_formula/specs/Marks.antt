@@ -1,4 +1,4 @@
--- How far the reader of an expression has come, byte by byte.
+-- How far the reader of an expression has come, byte by byte: for private contracts alone. No public contract names it.
 use Rattle.std.specs.Prelude.{ℕ, ◌+◌, ◌-◌, Bool, ◌||◌, ◌&&◌, ◌==◌, nat_lt, true, false, List, [], ◌∷◌, Option, Some, None, option_and_then, if◌then◌else◌}
 use Rattle.vkb_bytes.specs.Bytes.{is_word_byte}
 use Rattle.vkb_formula.specs.declared.mark.Mark.{Mark}

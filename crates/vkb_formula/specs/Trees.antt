@@ -1,4 +1,5 @@
--- What putting a tree into a pool leaves: the tree's own nodes, after those from before.
+-- What putting a tree into a pool leaves, the tree's own nodes after those from before: for private contracts alone. No
+-- public contract names it.
 use Rattle.std.specs.Prelude.{◌≡◌, ℕ, ◌+◌, ◌*◌, ◌<◌, ◌≤◌, List, ◌++◌, length, map, slice_index_or, sum_by}
 use Rattle.std.specs.List.{AllByRecursion}
 use Rattle.vkb_formula.specs.Formulas.{reach_of, greatest, size_of, variables_of, clauses_of}

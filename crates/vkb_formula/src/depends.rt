@@ -1,5 +1,5 @@
-ghost use Rattle.std.specs.Prelude.{◌≡◌, ◌<◌, ◌^◌, ◌++◌, ◌≤◌, ◌≢◌, length, Bool, List, None, IfOk, IfErr, All};
-ghost use Rattle.vkb_formula.specs.Expressions.{Expression, Spells, formula_of, holds, has_option, places_of, words_in, IsSized};
+ghost use Rattle.std.specs.Prelude.{◌≡◌, ◌<◌, ◌^◌, ◌++◌, ◌≤◌, ◌≢◌, ◌↔◌, ℕ, length, take, Bool, List, None, IfOk, IfErr, All};
+ghost use Rattle.vkb_formula.specs.Expressions.{Expression, Spells, formula_of, holds, has_option, places_of, words_in, IsSized, IsFront, IsStop};
 ghost use Rattle.vkb_formula.specs.Formulas.{value_of, reach_of};
 ghost use Rattle.vkb_formula.specs.Building.{runs_of};
 ghost use Rattle.vkb_formula.specs.Faults.{IsStopFault, GivesOrMemory, GivesItemsOrMemory};
@@ -18,7 +18,7 @@ use vkb_bytes::is_word_byte;
 pub enum ExprFault {
     /// The text is no expression. `at` is the length in bytes of its longest part from its start with which some
     /// expression begins.
-    #[error("no expression: byte {at} can't stand there")]
+    #[error("no expression goes on after {at} bytes")]
     BadExpression { at: u32 },
     #[error("out of memory")]
     Memory,
@@ -35,9 +35,10 @@ impl From<Memory> for ExprFault {
     }
 }
 
-/// The formula of an expression of the attribute `depends`, as the Vulkan registry manual has it: names of letters,
-/// digits and `_`, or two such words with `::` between them, joined by `+` for and, and `,` for or. Both bind alike and
-/// group from the left. Parentheses nest at most 64 deep, and there are at most 4,096 names.
+/// The formula of an expression of the attribute `depends`. The Vulkan registry manual has names, joined by `+` for and,
+/// and `,` for or, and parentheses. This tool's own are the rest: a name is a word of letters, digits and `_`, or two
+/// words with `::` between them, which name a structure's member; `+` and `,` bind alike and group from the left;
+/// parentheses nest at most 64 deep, and there are at most 4,096 names, a member being one.
 ///
 /// A name is the variable of its place among the options, or false where it is none. `BadExpression` where the text is
 /// no expression.
@@ -47,7 +48,7 @@ pub fn read_depends(alloc: Global, text: &[u8], options: &NameTable) -> Result<F
     // What is read is spelled so, and the formula has its shape.
     ensures read { IfOk result (λ f. (e : Expression) × Spells e text.now × (f ≡ formula_of options.now e)) }
 
-    // What is spelled is read, unless memory runs out: so a text is one expression at most.
+    // What is spelled is read, unless memory runs out: so all that a text spells has one formula.
     ensures only { (e : Expression) → Spells e text.now → GivesOrMemory (formula_of options.now e) result }
 
     // It says what the expression says, at every set of options.
@@ -75,6 +76,18 @@ pub fn words_of(alloc: Global, text: &[u8]) -> Result<Vec<(u32, u32)>, ExprFault
     check(text)?;
     Ok(name_places(alloc, text)?)
 }
+
+/// A law: of the parts with which a text begins, those as long as the text's stop or shorter are the fronts of
+/// expressions, and the longer ones aren't.
+pub fn a_stop_is_the_longest_front()
+    ensures { (text : List ℕ) (at n : ℕ) → IsStop text at → n ≤ length text
+        → (IsFront (take n text) ↔ (n ≤ at)) }
+{}
+
+/// A law: a text is one expression at most.
+pub fn a_text_is_one_expression()
+    ensures { (e f : Expression) (text : List ℕ) → Spells e text → Spells f text → e ≡ f }
+{}
 
 /// Whether a text is an expression.
 fn check(text: &[u8]) -> Result<(), ExprFault>

@@ -11,7 +11,9 @@ mod name_set;
 mod name_table;
 mod pool;
 
-pub use depends::{ExprFault, read_depends, words_of};
+pub use depends::{
+    ExprFault, a_stop_is_the_longest_front, a_text_is_one_expression, read_depends, words_of,
+};
 pub use formula::{Formula, all, any, not};
 pub use memory::Memory;
 pub use name_set::NameSet;

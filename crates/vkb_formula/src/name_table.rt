@@ -34,7 +34,7 @@ impl From<Memory> for NameFault {
 /// The most names that a table holds.
 const MOST_NAMES: usize = 1_048_576;
 
-/// Different names, each at the place at which it was first put in. A name is found in constant time.
+/// Different names, each at the place at which it was first put in. A name is found by its hash.
 #[derive(Drop)]
 pub struct NameTable {
     names: IndexSet<Vec<u8>>,
@@ -78,6 +78,8 @@ impl NameTable {
         ensures table { OnOk result (self.new ≡ with_name name.now self.old) }
         ensures place { IfOk result (λ id. place_of name.now self.new ≡ Some id.0) }
         ensures held { IfOk result (λ id. slice_get self.new id.0 ≡ Some name.now) }
+        ensures keeps { OnOk result ((other : List ℕ) (place : ℕ)
+            → place_of other self.old ≡ Some place → place_of other self.new ≡ Some place) }
         ensures full { IsErrOf result NameFault.Full
             ↔ ((place_of name.now self.old ≡ None) × (length self.old ≡ most_names)) }
         ensures err { OnErr result (self.new ≡ self.old) }

@@ -80,6 +80,8 @@ impl Pool {
         requires { All (λ part. part < length self.old) (parts_of node) }
         ensures ok { OnOk result (self.new ≡ self.old ++ node ∷ []) }
         ensures place { IfOk result (λ id. id.0 ≡ length self.old) }
+        ensures reach { OnOk result (pool_reach self.new ≡ max (pool_reach self.old) (reach_at node)) }
+        ensures size { OnOk result (pool_size self.new ≡ pool_size self.old + entries_of node) }
         ensures err { OnErr result (self.new ≡ self.old) }
     {
         let Some(size) = self.size.checked_add(entries(&node)) else {
@@ -108,7 +110,8 @@ impl Pool {
     /// The value of each node at a set, which tells of each variable whether it is true.
     pub fn values(&self, set: &[bool]) -> Result<Vec<bool>, Memory>
         requires { pool_reach self.now ≤ length set.now }
-        ensures { IfOk result (λ values. values.items ≡ map (value_of set.now) (unfolded self.now)) }
+        ensures values { IfOk result (λ values. values.items ≡ map (value_of set.now) (unfolded self.now)) }
+        ensures count { IfOk result (λ values. length values.items ≡ length self.now) }
     {
         values_of(self.alloc(), self.nodes.as_slice(), set)
     }
@@ -123,13 +126,14 @@ impl Pool {
     }
 }
 
-/// A law: when nodes are put last, the formulas of those from before and the sums over what they reach stay, and the
-/// sum over what the new node reaches is at most its own weight and the sums of its parts.
+/// A law: each node has one formula. When nodes are put last, the formulas of those from before and the sums over what
+/// they reach stay, and the sum over what the new node reaches is at most its own weight and the sums of its parts.
 pub fn nodes_keep_their_meaning()
     ensures formulas { (nodes more : List PoolNode) (place : ℕ) → place < length nodes
         → slice_get (unfolded (nodes ++ more)) place ≡ slice_get (unfolded nodes) place }
     ensures next { (nodes : List PoolNode) (last : PoolNode)
         → unfolded (nodes ++ last ∷ []) ≡ unfolded nodes ++ formula_at (unfolded nodes) last ∷ [] }
+    ensures count { (nodes : List PoolNode) → length (unfolded nodes) ≡ length nodes }
     ensures sums { (nodes more : List PoolNode) (root : ℕ) (weigh : PoolNode → ℕ) → root < length nodes
         → sum_reached weigh (nodes ++ more) root ≡ sum_reached weigh nodes root }
     ensures shared { (nodes : List PoolNode) (last : PoolNode) (weigh : PoolNode → ℕ)

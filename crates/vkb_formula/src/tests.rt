@@ -128,6 +128,11 @@ fn a_fault_stands_where_no_expression_goes_on(rt: HostRuntime) {
     stops(&rt, alloc, &options, b"(A", 2);
     stops(&rt, alloc, &options, b"A)", 1);
     stops(&rt, alloc, &options, b"(A)B", 3);
+    stops(&rt, alloc, &options, b"A:::B", 3);
+    stops(&rt, alloc, &options, b"A::", 3);
+    stops(&rt, alloc, &options, b"::A", 0);
+    stops(&rt, alloc, &options, b"()", 1);
+    stops(&rt, alloc, &options, b"A\xff", 1);
 }
 
 #[test]
@@ -169,15 +174,23 @@ fn the_greatest_expressions_are_read(rt: HostRuntime) -> Result<(), Fail> {
     Ok(())
 }
 
+/// The name `A` in so many parentheses.
+fn nested(alloc: Global, depth: u32) -> Result<Vec<u8>, Memory> {
+    let mut text = repeated(alloc, b'(', None, depth)?;
+    text.push(b'A')?;
+    let shut = repeated(alloc, b')', None, depth)?;
+    text.extend_from_slice(shut.as_slice())?;
+    Ok(text)
+}
+
 #[test]
 fn parentheses_add_nothing(rt: HostRuntime) -> Result<(), Fail> {
     let alloc = rt.alloc();
     let options = table(alloc, &[b"A"])?;
-    let mut nested = repeated(alloc, b'(', None, 64)?;
-    nested.push(b'A')?;
-    let shut = repeated(alloc, b')', None, 64)?;
-    nested.extend_from_slice(shut.as_slice())?;
-    says(&rt, alloc, &options, nested.as_slice(), true);
+    let deepest = nested(alloc, 64)?;
+    says(&rt, alloc, &options, deepest.as_slice(), true);
+    let deeper = nested(alloc, 65)?;
+    stops(&rt, alloc, &options, deeper.as_slice(), 64);
     Ok(())
 }
 
@@ -248,7 +261,12 @@ fn a_tree_in_a_pool_has_its_value(rt: HostRuntime) -> Result<(), Fail> {
 }
 
 #[test]
-fn a_formula_of_no_parts_has_a_value(rt: HostRuntime) {
-    assert!(rt; all(Vec::new(rt.alloc())).value(&[]));
-    assert!(rt; !any(Vec::new(rt.alloc())).value(&[]));
+#[tactic(auto, using(crate::proofs::FormulaLemmas::formula_facts))]
+fn a_formula_of_no_variables_has_a_value(rt: HostRuntime) -> Result<(), Fail> {
+    let alloc = rt.alloc();
+    assert!(rt; all(Vec::new(alloc)).value(&[]));
+    assert!(rt; !any(Vec::new(alloc)).value(&[]));
+    let truth = not(alloc, Formula::Never)?;
+    assert!(rt; truth.value(&[]));
+    Ok(())
 }

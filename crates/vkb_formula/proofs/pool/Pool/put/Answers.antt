@@ -1,6 +1,12 @@
-use Rattle.std.proofs.Common.{arith}
+use Rattle.std.proofs.Common.{ap, arith, ◌∷◌, []}
+use Rattle.vkb_formula.specs.Pools.{pool_reach}
 use Rattle.vkb_formula.proofs.PoolLemmas.{IsPool-push, pool_size-push}
+use Rattle.vkb_formula.proofs.TreeLemmas.{pool_reach-append}
 use Rattle.vkb_formula.proofs.pool.Pool.put.Goals as goal
+
+pub returns-clause-reach : goal.returns-clause-reach
+returns-clause-reach c =
+    omega (arith, ap pool_reach c.in_ok-push.ensures.items, ap pool_reach c.self.view_is, pool_reach-append c.self.inside.nodes.items (c.args.node ∷ []))
 
 pub invariant_of-self-2 : goal.invariant_of-self-2
 invariant_of-self-2 c =
