@@ -183,3 +183,16 @@ fn a_failed_write_leaves_a_prefix(rt: HostRuntime) -> Result<(), Fail> {
     }
     Ok(())
 }
+
+#[test]
+fn statuses_have_their_numbers(rt: HostRuntime) {
+    one_reading();
+    lines_join();
+    assert_eq!(rt; Status::Done.number(), 0);
+    assert_eq!(rt; Status::Broken.number(), 1);
+    assert_eq!(rt; Status::Usage.number(), 2);
+    assert_eq!(rt; Status::Refused.number(), 3);
+    assert_eq!(rt; Status::ReadFault.number(), 4);
+    assert_eq!(rt; Status::WriteFault.number(), 5);
+    assert_eq!(rt; Status::Memory.number(), 6);
+}
