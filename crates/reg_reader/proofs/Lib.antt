@@ -16,3 +16,4 @@ pub mod Fronts
 pub mod Contract
 pub mod ReferencePlaces
 pub mod CharactersLemmas
+pub mod Parts

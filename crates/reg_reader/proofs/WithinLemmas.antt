@@ -38,7 +38,7 @@ pub all-append : (n : ℕ) (xs : List (Part × Part)) (x : Part × Part) → Are
 all-append n [] x h a c = ((a, c), tt)
 all-append n (y ∷ xs) x h a c = (h.0, all-append n xs x h.1 a c)
 
-name-le : {b : List ℕ} {i j : ℕ} → IsName b i j → i + 1 ≤ j
+pub name-le : {b : List ℕ} {i j : ℕ} → IsName b i j → i + 1 ≤ j
 name-le named = each-le named.rest
 
 pub attributes-within : {b : List ℕ} {i j : ℕ} {attributes : List (Part × Part)} → AreAttributes b i j attributes → (i ≤ j) × AreWithin j attributes

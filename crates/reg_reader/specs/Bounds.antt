@@ -1,4 +1,4 @@
--- Bounds of the places of a state.
+-- Bounds of the places of a state. No public contract names it.
 use Rattle.std.specs.Prelude.{ℕ, ◌<◌, ◌≤◌}
 use Rattle.std.specs.List.{AllByRecursion}
 use Rattle.reg_reader.specs.Within.{Within, AreWithin}

@@ -1,4 +1,4 @@
--- How far the reader of markup has come, byte by byte.
+-- How far the reader of markup has come, byte by byte. No public contract names it.
 use Rattle.std.specs.Prelude.{ℕ, zero, suc, ◌+◌, ◌-◌, Bool, ◌||◌, ◌&&◌, ◌==◌, nat_le, nat_lt, List, [], ◌∷◌, ◌++◌, length, slice_index, slice_range, Option, Some, None, is_some, if◌then◌else◌}
 use Rattle.std.specs.Option.{option_map}
 use Rattle.vkb_bytes.specs.Bytes.{is_white}

@@ -1,11 +1,13 @@
 -- The markup of the Vulkan API registry (the registry manual, `registry.html`), in the profile that this project reads:
 -- elements, attributes, characters with references, and comments. All is said of places in one text.
-use Rattle.std.specs.Prelude.{◌≡◌, ℕ, ◌+◌, ◌*◌, ◌-◌, ◌<◌, ◌≤◌, ◌⊎◌, Bool, true, false, ◌||◌, ◌&&◌, ◌==◌, nat_le, List, [], ◌∷◌, ◌++◌, length, take, slice_index, slice_range, codes, fold, if◌then◌else◌}
+use Rattle.std.specs.Prelude.{◌≡◌, ℕ, ◌+◌, ◌*◌, ◌-◌, ◌<◌, ◌≤◌, ◌⊎◌, Bool, true, false, ◌||◌, ◌&&◌, ◌==◌, nat_le, List, [], ◌∷◌, ◌++◌, length, take, slice_index, slice_index_or, slice_range, codes, fold, if◌then◌else◌, All}
 use Rattle.std.specs.List.{list_all, list_any}
 use Rattle.std.specs.Str.{bytes_eq}
 use Rattle.vkb_bytes.specs.Bytes.{is_letter, is_digit, is_white, is_word_byte}
 use Rattle.reg_reader.specs.declared.markup.Part.{Part}
 use Rattle.reg_reader.specs.declared.markup.Node.{Node}
+use Rattle.reg_reader.specs.declared.markup.Node.TheOpen.{Node-F}
+use Rattle.reg_reader.specs.declared.markup.Node.TheViews.{out-Node}
 use Rattle.reg_reader.specs.declared.markup.Node.TheVariants as node
 
 abbrev pub is_name_start : ℕ → Bool
@@ -227,3 +229,37 @@ pub record IsTooDeep (b : List ℕ) (at : ℕ) : Type 0 where
 -- one text spells one tree
 abbrev pub OneTree : Type 0
 OneTree = (b : List ℕ) (most other : ℕ) (root tree : Node) → Spells most root b → Spells other tree b → root ≡ tree
+
+-- a part of the text is a name
+pub record IsNamePart (b : List ℕ) (part : Part) : Type 0 where
+  pub named : IsName b part.from part.to
+  pub order : part.from ≤ part.to
+  pub within : part.to ≤ length b
+
+-- a part of the text has characters
+pub record IsCharactersPart (b : List ℕ) (part : Part) : Type 0 where
+  pub characters : HasCharacters b part
+  pub order : part.from ≤ part.to
+  pub within : part.to ≤ length b
+
+-- the name and the value of an attribute
+abbrev pub IsAttributeThere : List ℕ → Part × Part → Type 0
+IsAttributeThere b attribute = IsNamePart b attribute.0 × IsCharactersPart b attribute.1
+
+-- a node lies in the text, whatever its children are
+abbrev pub IsNodeThere : List ℕ → Node-F Node → Type 0
+IsNodeThere b (Node-F.Element at name attributes children) = (at < length b) × IsNamePart b name × All (IsAttributeThere b) attributes
+IsNodeThere b (Node-F.Chars part) = IsCharactersPart b part
+
+abbrev pub children_of : Node-F Node → List Node
+children_of (Node-F.Element at name attributes children) = children
+children_of (Node-F.Chars part) = []
+
+-- All parts of a tree lie in the text: the names are names there, and the values and the characters between pieces of
+-- markup have characters. The second field is `All (HasParts b)` of the children, written out.
+pub data HasParts (b : List ℕ) : Node → Type 0 where
+  parts : {tree : Node} → IsNodeThere b (out-Node tree) → ((k : ℕ) (other : Node) → k < length (children_of (out-Node tree)) → HasParts b (slice_index_or (children_of (out-Node tree)) k other)) → HasParts b tree
+
+-- a tree that is spelled has its parts in the text
+abbrev pub PartsAreThere : Type 0
+PartsAreThere = (b : List ℕ) (most : ℕ) (root : Node) → Spells most root b → HasParts b root

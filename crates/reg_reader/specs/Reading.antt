@@ -1,4 +1,4 @@
--- What the reader's calls leave.
+-- What the reader's calls leave. No public contract names it.
 use Rattle.std.specs.Prelude.{◌≡◌, ℕ, ◌-◌, ◌<◌, ◌≤◌, List, length, reverse, Some, Result, Ok, Err}
 use Rattle.reg_reader.specs.Machine.{State, Move, Next, Bad, Deep, step, run}
 use Rattle.reg_reader.specs.declared.markup.Node.{Node}

@@ -1,4 +1,4 @@
--- How far a reference was read.
+-- How far a reference was read. No public contract names it.
 use Rattle.std.specs.Prelude.{ℕ, ◌+◌, ◌-◌, ◌*◌, Bool, ◌||◌, ◌&&◌, ◌==◌, nat_le, List, [], ◌∷◌, length, codes, take, if◌then◌else◌}
 use Rattle.std.specs.Str.{bytes_eq}
 use Rattle.vkb_bytes.specs.Bytes.{is_digit}

@@ -1,4 +1,4 @@
--- Bounds of places that were read.
+-- Bounds of places that were read. No public contract names it.
 use Rattle.std.specs.Prelude.{ℕ, ◌<◌, ◌≤◌, List, Option, Some, None}
 use Rattle.std.specs.List.{AllByRecursion}
 use Rattle.reg_reader.specs.declared.markup.Part.{Part}

@@ -5,7 +5,7 @@
 
 ghost use Rattle.std.specs.Prelude.{◌≡◌, ◌<◌, ◌^◌, ◌⊎◌, ℕ, length, Ok, Err, IfOk};
 ghost use Rattle.reg_reader.specs.declared.markup.Node.{Node};
-ghost use Rattle.reg_reader.specs.Markup.{Spells, IsStop, IsTooDeep, OneTree, HasCharacters, AreCharactersOf};
+ghost use Rattle.reg_reader.specs.Markup.{Spells, IsStop, IsTooDeep, OneTree, PartsAreThere, HasCharacters, AreCharactersOf};
 
 use std::alloc::Global;
 
@@ -58,6 +58,12 @@ pub fn chars_of(alloc: Global, bytes: &[u8], part: Part) -> Result<Vec<u8>, Memo
 /// Bytes spell at most one tree, at whatever limits of depth.
 pub fn one_tree()
     ensures { OneTree }
+{}
+
+/// All parts of a tree lie in the bytes that spell it: names are names there, and `chars_of` takes the `Chars` nodes and
+/// the values of attributes.
+pub fn parts_are_there()
+    ensures { PartsAreThere }
 {}
 
 #[cfg(test)]
