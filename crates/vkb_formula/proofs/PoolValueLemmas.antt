@@ -1,11 +1,11 @@
 -- The values of a pool's nodes at a set.
-use Rattle.std.proofs.Common.{◌≡◌, ℕ, zero, suc, ◌+◌, ◌<◌, ◌≤◌, Bool, true, false, not, ◌&&◌, ◌||◌, List, [], ◌∷◌, ◌++◌, length, map, take, Some, get_or, slice_index_or, All, Result, Ok, Err, Vec, IfOk, refl, sym, ap, subst, ◌∙◌, arith}
+use Rattle.std.proofs.Common.{◌≡◌, ℕ, zero, suc, ◌+◌, ◌<◌, ◌≤◌, Bool, false, not, ◌&&◌, ◌||◌, List, [], ◌∷◌, ◌++◌, length, map, take, Some, get_or, slice_index_or, All, Result, Ok, Err, Vec, IfOk, refl, sym, ap, subst, ◌∙◌, arith}
 use Rattle.std.specs.List.{list_all, list_any}
 use Rattle.std.specs.Global.{Global}
 use Rattle.std.proofs.lemmas.List.{take_more, length-map, length-take-le, map_push, get_or-map}
 use Rattle.std.proofs.lemmas.Option.{slice_get-get_or}
 use Rattle.vkb_formula.specs.Formulas.{value_of, node_value}
-use Rattle.vkb_formula.specs.Pools.{parts_of, IsPool, formula_at, unfolded, reach_at, pool_reach}
+use Rattle.vkb_formula.specs.Pools.{parts_of, IsPool, formula_at, unfolded, pool_values, value_at, reach_at, pool_reach}
 use Rattle.vkb_formula.specs.declared.formula.Formula.{Formula}
 use Rattle.vkb_formula.specs.declared.formula.Formula.TheVariants as formula
 use Rattle.vkb_formula.specs.declared.pool.NodeId.{NodeId}
@@ -32,40 +32,34 @@ module _ (set : List Bool) where
       ap (λ b. b || list_any (value_of set) (map (λ part. slice_index_or made part.0 formula.Never) ps)) (value-read made p.0)
       ∙ ap (λ b. get_or (map (value_of set) made) p.0 false || b) (values-any made ps)
 
-  pub at-Always : (made : List Formula) → value_of set (formula_at made node.Always) ≡ true
-  at-Always made = fold-Always (node_value set)
+  -- a node's value is that of its formula
+  value-at : (made : List Formula) (n : PoolNode) → value_of set (formula_at made n) ≡ value_at set (map (value_of set) made) n
+  value-at made node.Always = fold-Always (node_value set)
+  value-at made node.Never = fold-Never (node_value set)
+  value-at made (node.Var variable) = fold-Var (node_value set) variable
+  value-at made (node.Not part) = fold-Not (node_value set) (get_or made part.0 formula.Never) ∙ ap not (value-read made part.0)
+  value-at made (node.All parts) = value-All set (map (λ part. slice_index_or made part.0 formula.Never) parts) ∙ values-all made parts
+  value-at made (node.Any parts) = value-Any set (map (λ part. slice_index_or made part.0 formula.Never) parts) ∙ values-any made parts
 
-  pub at-Never : (made : List Formula) → value_of set (formula_at made node.Never) ≡ false
-  at-Never made = fold-Never (node_value set)
-
-  pub at-Var : (made : List Formula) (variable : ℕ) → value_of set (formula_at made (node.Var variable)) ≡ get_or set variable false
-  at-Var made variable = fold-Var (node_value set) variable
-
-  pub at-Not : (made : List Formula) (part : NodeId) → value_of set (formula_at made (node.Not part)) ≡ not (get_or (map (value_of set) made) part.0 false)
-  at-Not made part = fold-Not (node_value set) (get_or made part.0 formula.Never) ∙ ap not (value-read made part.0)
-
-  pub at-All : (made : List Formula) (parts : List NodeId) → value_of set (formula_at made (node.All parts)) ≡ list_all (λ part. slice_index_or (map (value_of set) made) part.0 false) parts
-  at-All made parts = value-All set (map (λ part. slice_index_or made part.0 formula.Never) parts) ∙ values-all made parts
-
-  pub at-Any : (made : List Formula) (parts : List NodeId) → value_of set (formula_at made (node.Any parts)) ≡ list_any (λ part. slice_index_or (map (value_of set) made) part.0 false) parts
-  at-Any made parts = value-Any set (map (λ part. slice_index_or made part.0 formula.Never) parts) ∙ values-any made parts
+  -- a node that is put last has its value from those before it
+  pub values-push : (nodes : List PoolNode) (n : PoolNode) → pool_values set (nodes ++ n ∷ []) ≡ pool_values set nodes ++ value_at set (pool_values set nodes) n ∷ []
+  values-push nodes n =
+      ap (map (value_of set)) (unfolded-push nodes n) ∙ map_push (value_of set) (unfolded nodes) (formula_at (unfolded nodes) n)
+      ∙ ap (λ v. pool_values set nodes ++ v ∷ []) (value-at (unfolded nodes) n)
 
   -- one more node has one more value
-  pub values-more : (nodes : List PoolNode) (i : ℕ) (n : PoolNode) (value : Bool) (values new : List Bool) → n ≡ get_or nodes i n → i < length nodes → values ≡ map (value_of set) (unfolded (take i nodes)) → ((made : List Formula) → values ≡ map (value_of set) made → value ≡ value_of set (formula_at made n)) → new ≡ values ++ value ∷ [] → new ≡ map (value_of set) (unfolded (take (i + 1) nodes))
+  pub values-more : (nodes : List PoolNode) (i : ℕ) (n : PoolNode) (value : Bool) (values new : List Bool) → n ≡ get_or nodes i n → i < length nodes → values ≡ pool_values set (take i nodes) → value ≡ value_at set values n → new ≡ values ++ value ∷ [] → new ≡ pool_values set (take (i + 1) nodes)
   values-more nodes i n value values new is h before gives e =
-      let made = unfolded (take i nodes) in
-      e ∙ ap (λ vs. vs ++ value ∷ []) before ∙ ap (λ v. map (value_of set) made ++ v ∷ []) (gives made before)
-      ∙ sym (map_push (value_of set) made (formula_at made n))
-      ∙ ap (map (value_of set)) (sym (unfolded-push (take i nodes) n))
-      ∙ ap (λ ns. map (value_of set) (unfolded ns)) (ap (λ x. take i nodes ++ x ∷ []) is ∙ sym (take_more nodes i n h))
+      e ∙ ap (λ v. values ++ v ∷ []) gives ∙ ap (λ vs. vs ++ value_at set vs n ∷ []) before ∙ sym (values-push (take i nodes) n)
+      ∙ ap (pool_values set) (ap (λ x. take i nodes ++ x ∷ []) is ∙ sym (take_more nodes i n h))
 
 -- there are as many values as nodes
-pub values-count : {E : Type 0} (set : List Bool) (nodes now : List PoolNode) (r : Result (Vec Bool Global) E) → nodes ≡ now → IfOk r (λ values. values.items ≡ map (value_of set) (unfolded nodes)) → IfOk r (λ values. length values.items ≡ length now)
+pub values-count : {E : Type 0} (set : List Bool) (nodes now : List PoolNode) (r : Result (Vec Bool Global) E) → nodes ≡ now → IfOk r (λ values. values.items ≡ pool_values set nodes) → IfOk r (λ values. length values.items ≡ length now)
 values-count set nodes now (Err e) same h = tt
 values-count set nodes now (Ok values) same h = ap length h ∙ length-map (unfolded nodes) (value_of set) ∙ length-unfolded nodes ∙ ap length same
 
 -- the parts of a node have values when it is reached
-pub parts-before : (nodes : List PoolNode) (i : ℕ) (n : PoolNode) (set values : List Bool) → IsPool nodes → n ≡ get_or nodes i n → i < length nodes → values ≡ map (value_of set) (unfolded (take i nodes)) → All (λ part. part < length values) (parts_of n)
+pub parts-before : (nodes : List PoolNode) (i : ℕ) (n : PoolNode) (set values : List Bool) → IsPool nodes → n ≡ get_or nodes i n → i < length nodes → values ≡ pool_values set (take i nodes) → All (λ part. part < length values) (parts_of n)
 parts-before nodes i n set values pool is h e =
     let count : length values ≡ i = ap length e ∙ length-map (unfolded (take i nodes)) (value_of set) ∙ length-unfolded (take i nodes) ∙ length-take-le i nodes (omega arith) in
     subst (λ k. All (λ part. part < k) (parts_of n)) (sym count) (pool i n (slice_get-get_or nodes i n h ∙ ap Some (sym is)))

@@ -1,7 +1,7 @@
 -- Pools of shared formulas: lists of nodes that name their parts by place.
-use Rattle.std.specs.Prelude.{◌≡◌, ℕ, ◌+◌, ◌<◌, Bool, false, ◌||◌, ◌==◌, List, [], ◌∷◌, ◌++◌, length, map, Some, slice_get, slice_index_or, sum_by, All, if◌then◌else◌}
-use Rattle.std.specs.List.{list_any}
-use Rattle.vkb_formula.specs.Formulas.{greatest}
+use Rattle.std.specs.Prelude.{◌≡◌, ℕ, ◌+◌, ◌<◌, Bool, true, false, not, ◌||◌, ◌==◌, List, [], ◌∷◌, ◌++◌, length, map, Some, slice_get, slice_index_or, sum_by, All, if◌then◌else◌}
+use Rattle.std.specs.List.{list_all, list_any}
+use Rattle.vkb_formula.specs.Formulas.{greatest, value_of}
 use Rattle.vkb_formula.specs.declared.formula.Formula.{Formula}
 use Rattle.vkb_formula.specs.declared.formula.Formula.TheVariants as formula
 use Rattle.vkb_formula.specs.declared.pool.PoolNode.{PoolNode}
@@ -41,6 +41,19 @@ formula_at made (node.Any parts) = formula.Any (map (λ part. slice_index_or mad
 -- the formula of each node, with every part unfolded
 abbrev pub unfolded : List PoolNode → List Formula
 unfolded nodes = made_from formula_at [] nodes
+
+-- the value of each node at a set
+abbrev pub pool_values : List Bool → List PoolNode → List Bool
+pool_values set nodes = map (value_of set) (unfolded nodes)
+
+-- the value of a node at a set, from the values of the nodes before it
+abbrev pub value_at : List Bool → List Bool → PoolNode → Bool
+value_at set values node.Always = true
+value_at set values node.Never = false
+value_at set values (node.Var variable) = slice_index_or set variable false
+value_at set values (node.Not part) = not (slice_index_or values part.0 false)
+value_at set values (node.All parts) = list_all (λ part. slice_index_or values part.0 false) parts
+value_at set values (node.Any parts) = list_any (λ part. slice_index_or values part.0 false) parts
 
 -- a node and an entry for each of its parts
 abbrev pub entries_of : PoolNode → ℕ

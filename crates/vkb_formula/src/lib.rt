@@ -9,6 +9,7 @@ mod mark;
 mod memory;
 mod name_set;
 mod name_table;
+mod names;
 mod pool;
 
 pub use depends::{
@@ -18,6 +19,7 @@ pub use formula::{Formula, all, any, not};
 pub use memory::Memory;
 pub use name_set::NameSet;
 pub use name_table::{NameFault, NameId, NameTable};
+pub use names::Names;
 pub use pool::{NodeId, Pool, PoolNode, nodes_keep_their_meaning};
 
 #[cfg(test)]

@@ -1,8 +1,8 @@
-ghost use Rattle.std.specs.Prelude.{◌≡◌, ◌++◌, [], ◌∷◌, ◌+◌, ◌<◌, ◌≤◌, ◌↔◌, List, ℕ, length, slice_get, Some, None, Contains, IfSome, IfNone, IfOk, OnOk, OnErr, IsNone, IsErrOf, option_map, map};
+ghost use Rattle.std.specs.Prelude.{◌≡◌, [], ◌<◌, ◌≤◌, ◌↔◌, List, ℕ, length, slice_get, Some, None, IfSome, IfNone, IfOk, OnOk, OnErr, IsErrOf, option_map};
 ghost use Rattle.vkb_formula.specs.Names.{most_names, place_of, with_name, AreDifferent};
 
 use crate::memory::Memory;
-use indexmap::IndexSet;
+use crate::names::Names;
 use std::alloc::Global;
 use std::marker::Model;
 use thiserror::Error;
@@ -37,18 +37,18 @@ const MOST_NAMES: usize = 1_048_576;
 /// Different names, each at the place at which it was first put in. A name is found by its hash.
 #[derive(Drop)]
 pub struct NameTable {
-    names: IndexSet<Vec<u8>>,
+    names: Names,
 }
 
 impl Model for NameTable {
-    ghost use Rattle.std.specs.Prelude.{List, ℕ, map, length, ◌≤◌};
+    ghost use Rattle.std.specs.Prelude.{List, ℕ, length, ◌≤◌};
     ghost use Rattle.vkb_formula.specs.Names.{most_names};
 
     ghost Value = { List (List ℕ) };
 
-    ghost view = { λ t. map (λ name. name.items) t.names.keys };
+    ghost view = { λ t. t.names };
 
-    ghost invariant = { λ t. length t.names.keys ≤ most_names };
+    ghost invariant = { λ t. length t.names ≤ most_names };
 }
 
 impl NameTable {
@@ -57,7 +57,7 @@ impl NameTable {
         ensures { result ≡ [] }
     {
         NameTable {
-            names: IndexSet::new(alloc),
+            names: Names::new(alloc),
         }
     }
 
@@ -84,13 +84,10 @@ impl NameTable {
             ↔ ((place_of name.now self.old ≡ None) × (length self.old ≡ most_names)) }
         ensures err { OnErr result (self.new ≡ self.old) }
     {
-        if let Some(place) = place_in(&self.names, name) {
-            return Ok(NameId(place as u32));
-        }
         if self.names.len() >= MOST_NAMES {
-            return Err(NameFault::Full);
+            return self.find(name).ok_or(NameFault::Full);
         }
-        let place = put_last(&mut self.names, name)?;
+        let place = self.names.intern(name)?;
         Ok(NameId(place as u32))
     }
 
@@ -101,7 +98,7 @@ impl NameTable {
         ensures found { IfSome result (λ id. slice_get self.now id.0 ≡ Some name.now) }
         ensures absent { IfNone result ((place : ℕ) → slice_get self.now place ≡ Some name.now → ⊥) }
     {
-        let place = place_in(&self.names, name)?;
+        let place = self.names.find(name)?;
         Some(NameId(place as u32))
     }
 
@@ -110,30 +107,6 @@ impl NameTable {
         requires { id.0 < length self.now }
         ensures { slice_get self.now id.0 ≡ Some result.now }
     {
-        self.names.as_slice()[id.0 as usize].as_slice()
+        self.names.name(id.0 as usize)
     }
-}
-
-/// The place of a name in a set.
-fn place_in(names: &IndexSet<Vec<u8>>, name: &[u8]) -> Option<usize>
-    ensures place { result ≡ place_of name.now (map (λ held. held.items) names.now.keys) }
-    ensures within { IfSome result (λ place. place < length names.now.keys) }
-{
-    names.get_index_of(name)
-}
-
-/// Puts a new name last, and answers its place.
-fn put_last(names: &mut IndexSet<Vec<u8>>, name: &[u8]) -> Result<usize, Memory>
-    requires { place_of name.now (map (λ held. held.items) names.old.keys) ≡ None }
-    ensures names { OnOk result (map (λ held. held.items) names.new.keys
-        ≡ map (λ held. held.items) names.old.keys ++ name.now ∷ []) }
-    ensures count { OnOk result (length names.new.keys ≡ length names.old.keys + 1) }
-    ensures place { IfOk result (λ place. place ≡ length names.old.keys) }
-    ensures found { IfOk result (λ place. place_of name.now (map (λ held. held.items) names.new.keys) ≡ Some place) }
-    ensures err { OnErr result (names.new.keys ≡ names.old.keys) }
-{
-    let alloc = *names.allocator();
-    let owned = Vec::from_slice(alloc, name)?;
-    let (place, _) = names.insert_full(owned)?;
-    Ok(place)
 }

@@ -1,7 +1,7 @@
-ghost use Rattle.std.specs.Prelude.{◌≡◌, ◌+◌, ◌*◌, ◌<◌, ◌≤◌, ◌++◌, [], ◌∷◌, max, All, List, ℕ, sum_by, map, length, take, slice_get, slice_index_or, Some, false, IfOk, OnOk, OnErr};
+ghost use Rattle.std.specs.Prelude.{◌≡◌, ◌+◌, ◌*◌, ◌<◌, ◌≤◌, ◌++◌, [], ◌∷◌, max, All, List, Bool, ℕ, sum_by, length, take, slice_get, slice_index_or, Some, false, IfOk, OnOk, OnErr};
 ghost use Rattle.std.specs.List.{list_all, list_any};
-ghost use Rattle.vkb_formula.specs.Formulas.{value_of, reach_of, size_of, variables_of, clauses_of};
-ghost use Rattle.vkb_formula.specs.Pools.{parts_of, IsPool, Extends, unfolded, entries_of, pool_size, reach_at, pool_reach, formula_at, node_variables, node_clauses, sum_reached};
+ghost use Rattle.vkb_formula.specs.Formulas.{reach_of, size_of, variables_of, clauses_of};
+ghost use Rattle.vkb_formula.specs.Pools.{parts_of, IsPool, Extends, unfolded, pool_values, value_at, entries_of, pool_size, reach_at, pool_reach, formula_at, node_variables, node_clauses, sum_reached};
 ghost use Rattle.vkb_formula.specs.Trees.{PutsTree, PutsTrees};
 
 use crate::formula::Formula;
@@ -82,6 +82,8 @@ impl Pool {
         ensures place { IfOk result (λ id. id.0 ≡ length self.old) }
         ensures reach { OnOk result (pool_reach self.new ≡ max (pool_reach self.old) (reach_at node)) }
         ensures size { OnOk result (pool_size self.new ≡ pool_size self.old + entries_of node) }
+        ensures values { OnOk result ((set : List Bool)
+            → pool_values set self.new ≡ pool_values set self.old ++ value_at set (pool_values set self.old) node ∷ []) }
         ensures err { OnErr result (self.new ≡ self.old) }
     {
         let Some(size) = self.size.checked_add(entries(&node)) else {
@@ -110,7 +112,7 @@ impl Pool {
     /// The value of each node at a set, which tells of each variable whether it is true.
     pub fn values(&self, set: &[bool]) -> Result<Vec<bool>, Memory>
         requires { pool_reach self.now ≤ length set.now }
-        ensures values { IfOk result (λ values. values.items ≡ map (value_of set.now) (unfolded self.now)) }
+        ensures values { IfOk result (λ values. values.items ≡ pool_values set.now self.now) }
         ensures count { IfOk result (λ values. length values.items ≡ length self.now) }
     {
         values_of(self.alloc(), self.nodes.as_slice(), set)
@@ -212,7 +214,7 @@ fn put_parts(pool: &mut Pool, parts: &[Formula]) -> Result<Listed<NodeId>, Memor
 fn values_of(alloc: Global, nodes: &[PoolNode], set: &[bool]) -> Result<Vec<bool>, Memory>
     requires pool { IsPool nodes.now }
     requires reach { pool_reach nodes.now ≤ length set.now }
-    ensures { IfOk result (λ values. values.items ≡ map (value_of set.now) (unfolded nodes.now)) }
+    ensures { IfOk result (λ values. values.items ≡ pool_values set.now nodes.now) }
 {
     let mut values = Vec::with_capacity(alloc, nodes.len())?;
     for node in nodes {
@@ -226,8 +228,7 @@ fn values_of(alloc: Global, nodes: &[PoolNode], set: &[bool]) -> Result<Vec<bool
 fn value_in(node: &PoolNode, values: &[bool], set: &[bool]) -> bool
     requires parts { All (λ part. part < length values.now) (parts_of node.now) }
     requires reach { reach_at node.now ≤ length set.now }
-    ensures { (made : List Formula) → values.now ≡ map (value_of set.now) made
-        → result ≡ value_of set.now (formula_at made node.now) }
+    ensures { result ≡ value_at set.now values.now node.now }
 {
     match node {
         PoolNode::Always => true,

@@ -1,5 +1,5 @@
-use Rattle.vkb_formula.proofs.NameLemmas.{put-names, put-place, put-count, put-found}
-use Rattle.vkb_formula.proofs.name_table.put_last.Goals as goal
+use Rattle.vkb_formula.proofs.NameLemmas.{different-names, put-names, put-place, put-count, put-found}
+use Rattle.vkb_formula.proofs.names.put_last.Goals as goal
 
 pub returns-clause-names : goal.returns-clause-names
 returns-clause-names c =
@@ -16,3 +16,6 @@ returns-clause-place c =
 pub returns-clause-found : goal.returns-clause-found
 returns-clause-found c =
     put-found (λ held. held.items) c.args.names.now.keys c.insert_full.new.self.keys _ _ c.requires (returns-clause-names c) (returns-clause-place c)
+
+pub returns-clause-different : goal.returns-clause-different
+returns-clause-different c = different-names (λ held. held.items) c.insert_full.new.self.keys c.in_ok-place.ensures.unique

@@ -1,7 +1,7 @@
 use Rattle.std.proofs.Common.{◌∙◌, ap}
 use Rattle.vkb_formula.specs.Names.{place_of}
 use Rattle.vkb_formula.proofs.NameLemmas.{place_of-held, place_of-stays}
-use Rattle.vkb_formula.proofs.name_table.NameTable.intern.Goals as goal
+use Rattle.vkb_formula.proofs.names.Names.intern.Goals as goal
 
 pub returns-clause-held : goal.returns-clause-held
 returns-clause-held c = place_of-held _ _ _ c.in_ok-place.ensures.found
