@@ -16,6 +16,7 @@ mod paths;
 mod spans;
 
 use crate::nest::Nest;
+pub use spans::is_name;
 use std::alloc::{AllocError, AllocFailed, Global};
 use thiserror::Error;
 use vkb_bytes::{Bytes, Listed};

@@ -118,7 +118,8 @@ pub(crate) fn is_word(bytes: &[u8]) -> bool
     !bytes.is_empty() && all_word_bytes(bytes)
 }
 
-pub(crate) fn is_name(bytes: &[u8]) -> bool
+/// Whether the bytes are a name as conditions have it: one or more letters, digits, `_` and `-`. It takes no memory.
+pub fn is_name(bytes: &[u8]) -> bool
     ensures { result ≡ is_run is_name_byte bytes.now }
 {
     !bytes.is_empty() && all_name_bytes(bytes)

@@ -206,6 +206,13 @@ fn odd_bytes_are_read(rt: HostRuntime) -> Result<(), Fail> {
     Ok(())
 }
 
+#[test]
+fn names_of_conditions_are_told(rt: HostRuntime) {
+    for (bytes, is) in [("", false), ("A-1_b", true), ("a.b", false), ("+X", false)] {
+        assert_eq!(rt; is_name(bytes.as_bytes()), is, "at {bytes:?}");
+    }
+}
+
 /// The pairs of lines, by what they are read as.
 fn pairs_of(rt: &impl Abort, alloc: Global, lines: &[&str]) -> Result<Vec<(u32, u32)>, CondFault> {
     let mut kinds = Vec::new(alloc);

@@ -2,7 +2,7 @@
 use Rattle.std.specs.Prelude.{◌≡◌, ℕ, ◌+◌, Bool, nat_eq, List, [], ◌∷◌, ◌++◌, Option, Some, None, option_map, is_some, slice_get, if◌then◌else◌}
 use Rattle.std.specs.Cmp.Lexicographic.{pointwise}
 
--- the most names that a table holds
+-- the most names that a table with a limit holds
 abbrev pub most_names : ℕ
 most_names = 1048576
 

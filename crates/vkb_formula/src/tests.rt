@@ -31,6 +31,20 @@ fn a_name_keeps_its_first_place(rt: HostRuntime) -> Result<(), Fail> {
 }
 
 #[test]
+fn a_name_has_one_place(rt: HostRuntime) -> Result<(), Fail> {
+    let mut names = Names::new(rt.alloc());
+    for (name, place) in [(b"x", 0), (b"y", 1), (b"x", 0)] {
+        assert_eq!(rt; names.intern(name)?, place);
+    }
+    assert_eq!(rt; names.len(), 2);
+    assert_eq!(rt; names.find(b"y"), Some(1));
+    assert_eq!(rt; names.find(b""), None);
+    assert!(rt; names.len() > 1);
+    assert_eq!(rt; names.name(1), b"y".as_slice());
+    Ok(())
+}
+
+#[test]
 fn a_set_has_what_was_added(rt: HostRuntime) -> Result<(), Fail> {
     let mut set = NameSet::new(rt.alloc(), 2)?;
     assert!(rt; !set.has(NameId(0)) && !set.has(NameId(1)));
