@@ -1,15 +1,16 @@
 -- A run that nothing outside disturbs is carried out.
-use Rattle.std.proofs.Common.{◌≡◌, ◌⊎◌, ℕ, List, [], ◌∷◌, Option, Some, None, IfSome, inl, inr, refl, sym, ◌∙◌, arith, subst}
+use Rattle.std.proofs.Common.{◌≡◌, ◌⊎◌, ℕ, List, Option, Some, None, IfSome, inl, inr, refl, sym, ◌∙◌, arith, subst}
 use Rattle.vkb_outside.specs.Faults.{Rose}
 use Rattle.vkb_outside.specs.Shelf.{Files}
 use Rattle.vkb_tool.specs.declared.status.Status.{Status}
 use Rattle.vkb_tool.specs.declared.status.Status.TheVariants.{Done, Broken, Usage, ReadFault, WriteFault, Memory}
 use Rattle.vkb_tool.specs.declared.answer.Answer.{Answer}
+use Rattle.vkb_tool.specs.declared.verdict.Verdict.TheVariants.{Yes, No}
 use Rattle.vkb_tool.specs.declared.words.Request.{Request}
 use Rattle.vkb_tool.specs.declared.words.Request.TheVariants.{Check}
 use Rattle.vkb_tool.specs.Answer.{AnswersWords, Delivers, IsRequestStatus, effect_of}
 use Rattle.vkb_tool.specs.Endings.{World, HoldsFiles, Ending, IsAlways, IsCarriedOut, IsComplete, IsUnfailing, completes, fails_reading, fails_putting, fails_writing, runs_out}
-use Rattle.vkb_tool.specs.Outcome.{Effect, Outcome, misplaced, refused, answers_yes, answers_no, HasNoFault}
+use Rattle.vkb_tool.specs.Outcome.{Effect, Outcome, misplaced, refused, answers, HasNoFault}
 use Rattle.vkb_tool.specs.Report.{usage_line}
 use Rattle.vkb_tool.specs.Words.{Spells, IsMisplaced}
 use Rattle.vkb_tool.proofs.WordsLemmas.{one_position, same_request}
@@ -22,12 +23,11 @@ calm before now rose quiet = let more = rose.more in let same = quiet.0 in let l
 answered : (words : List (List ℕ)) (files : Files) (effect : Effect) → Outcome words files effect → (request : Request) → Spells words request → HasNoFault request files
     → (effect.status ≡ Done) ⊎ (effect.status ≡ Broken)
 answered words files effect (misplaced position is) request spelled faults = absurd (is.none request spelled)
-answered words files effect (refused (Check root) fault asked is) request spelled faults =
-    let none : HasNoFault (Check root) files = subst (λ (r : Request). HasNoFault r files) (same_request words request (Check root) spelled asked) faults in
-    let both : fault ∷ is.0 ≡ [] = sym is.1 ∙ none in
-    cc
-answered words files effect (answers_yes root bytes links asked none held is) request spelled faults = inl refl
-answered words files effect (answers_no root bytes place id choice count asked none held is) request spelled faults = inr refl
+answered words files effect (refused (Check root always) fault asked is) request spelled faults =
+    let none : HasNoFault (Check root always) files = subst (λ (r : Request). HasNoFault r files) (same_request words request (Check root always) spelled asked) faults in
+    absurd (none fault is)
+answered words files effect (answers root bytes always d (Yes links) asked none held document is) request spelled faults = inl refl
+answered words files effect (answers root bytes always d (No place id choice count) asked none held document is) request spelled faults = inr refl
 
 pub is_complete : (words : List (List ℕ)) (files : Files) (status : Status) (old new : World) → Ending words files status old new → IsComplete words files status old new
 is_complete words files status old new (completes e) quiet request spelled faults =

@@ -5,7 +5,8 @@ use Rattle.std.proofs.lemmas.Bool.{cases_Bool}
 use Rattle.std.proofs.lemmas.Bool.Decides.{Decides-eqb}
 use Rattle.std.proofs.lemmas.List.Elements.{All-nil, All-cons, All-head, All-tail}
 use Rattle.std.specs.List.{flat_map, list_any}
-use Rattle.vkb_tool.specs.Lines.{lines_of, onto_first, is_line_feed, ends_a_line}
+use Rattle.vkb_tool.specs.Lines.{lines_of, is_line_feed, ends_a_line}
+use Rattle.std.specs.List.{onto_first}
 
 -- a line that ends at the first line feed
 pub lines_of-fed : (text : List ℕ) (end : ℕ) → end < length text → eqb (get_or text end 0) 10 ≡ true → ((k : ℕ) → k < end → eqb (get_or text k 0) 10 ≡ false)
@@ -47,9 +48,16 @@ pub is_false : (b : Bool) → (b ≡ true → ⊥) → b ≡ false
 is_false true h = absurd (h refl)
 is_false false h = refl
 
--- a line that is taken off the front gives up its room
-pub room-next : (old new : List (List ℕ)) (line : List ℕ) → old ≡ line ∷ new → room old ≡ length line + 1 + room new
-room-next old new line e = ap room e
+length-onto_first : (byte : ℕ) (lines : List (List ℕ)) → length (onto_first byte lines) ≤ length lines + 1
+length-onto_first byte [] = omega arith
+length-onto_first byte (line ∷ lines) = omega arith
+
+-- a line takes a byte at least
+pub lines_few : (text : List ℕ) → length (lines_of text) ≤ length text
+lines_few [] = omega arith
+lines_few (b ∷ bs) =
+    let rest = lines_few bs in
+    elim (cases_Bool (eqb b 10)) [ inl fed ↦ rw fed (omega arith) | inr plain ↦ rw plain (let more = length-onto_first b (lines_of bs) in omega arith) ]
 
 -- no line has a line feed
 abbrev unfed : List ℕ → Type 0

@@ -1,11 +1,13 @@
 -- What stands among the words, and where words stop being those of a request.
-use Rattle.std.proofs.Common.{◌≡◌, ◌≢◌, ℕ, ◌+◌, ◌-◌, ◌<◌, ◌≤◌, List, [], ◌∷◌, ◌++◌, length, take, drop, get_or, Vec, Some, None, slice_get, codes, refl, sym, ap, ◌∙◌, arith, subst, append_assoc, inl, inr}
+use Rattle.std.proofs.Common.{◌≡◌, ◌≢◌, ℕ, suc, ◌+◌, ◌-◌, ◌<◌, ◌≤◌, ◌⊎◌, List, [], ◌∷◌, ◌++◌, length, take, drop, map, get_or, Vec, Some, None, slice_get, codes, refl, sym, ap, ◌∙◌, arith, subst, append_assoc, inl, inr, All}
 use Rattle.std.specs.declared.alloc.Global.{Global}
 use Rattle.std.specs.Option.{option_map}
-use Rattle.std.proofs.lemmas.Option.{slice_get-map, slice_get_read, slice_get_past, slice_get_within, get_or_from_slice_get, slice_get-get_or}
+use Rattle.std.proofs.lemmas.Option.{slice_get-map, slice_get_read, slice_get_past, slice_get_within, get_or_from_slice_get, slice_get-get_or, none-some}
 use Rattle.std.proofs.lemmas.List.{take_more, length-append, length-take, get_or_append_left, get_or-take, take-append-drop, take-take}
-use Rattle.std.proofs.lemmas.Bool.{cases_order}
-use Rattle.vkb_tool.specs.Words.{IsFileName, Spells, IsFront, IsMisplaced, items_of}
+use Rattle.std.proofs.lemmas.List.Elements.{All-get_or, All-nil}
+use Rattle.std.proofs.lemmas.Bool.{cases_lt, cases_order}
+use Rattle.vkb_tool.specs.Reading.{IsNoAttribute}
+use Rattle.vkb_tool.specs.Words.{IsAttribute, IsFileName, Spells, IsFront, IsMisplaced, attribute_word, items_of}
 use Rattle.vkb_tool.specs.declared.words.Request.{Request}
 use Rattle.vkb_tool.specs.declared.words.Request.TheVariants.{Check}
 
@@ -15,9 +17,9 @@ found_word words i word within read = slice_get-map (λ w. w.items) words i ∙ 
 pub no_word : (words : List (Vec ℕ Global)) (i : ℕ) → length words ≤ i → slice_get (items_of words) i ≡ None
 no_word words i past = slice_get-map (λ w. w.items) words i ∙ ap (option_map (λ w. w.items)) (slice_get_past words i past)
 
--- the words of a check of a file
-abbrev pub check_words : List ℕ → List (List ℕ)
-check_words root = codes "check" ∷ codes "-" ∷ root ∷ codes "-" ∷ []
+-- the words of a check of a file, where some names are always set
+abbrev pub check_words : List ℕ → List (List ℕ) → List (List ℕ)
+check_words root always = codes "check" ∷ codes "-" ∷ root ∷ codes "-" ∷ map attribute_word always
 
 pub is_name_a : IsFileName (97 ∷ [])
 unfolding lib.Utf8.encode
@@ -34,43 +36,89 @@ slice_get_front words more k within =
     let below : k < k + 1 = omega arith in
     slice_get-get_or (take (k + 1) words ++ more) k [] longer ∙ ap Some (get_or_append_left (take (k + 1) words) more [] k in_front ∙ get_or-take (k + 1) words k [] below) ∙ sym (slice_get-get_or words k [] within)
 
+-- a request of these words
+record IsCheckOf (words : List (List ℕ)) : Type 0 where
+  pub root : List ℕ
+  pub always : List (List ℕ)
+  pub named : IsFileName root
+  pub set : All IsAttribute always
+  pub words_are : words ≡ check_words root always
+
 -- the words of a request are those of a check of some file
-spelled_at : (words : List (List ℕ)) (request : Request) → Spells words request → (other : List ℕ) × IsFileName other × (words ≡ check_words other)
-spelled_at words (Check root) spelled = (root, spelled.0, spelled.1)
+spelled_at : (words : List (List ℕ)) (request : Request) → Spells words request → IsCheckOf words
+spelled_at words (Check root always) spelled = record { root = root; always = always; named = spelled.0; set = spelled.1; words_are = spelled.2 }
 
 -- the first k words are those of a check, and the next one is that of none
-pub misplaced_at : (words : List (List ℕ)) (k : ℕ) (root : List ℕ) → IsFileName root → k ≤ 4 → take k words ≡ take k (check_words root)
-    → ((other : List ℕ) → IsFileName other → slice_get words k ≢ slice_get (check_words other) k) → IsMisplaced words (k + 1)
-misplaced_at words k root name most front differs =
-    let long : k ≤ length words = omega (arith, length-take k words, length-take k (check_words root), ap length front) in
+pub misplaced_at : (words : List (List ℕ)) (k : ℕ) (root : List ℕ) (always : List (List ℕ)) → IsFileName root → All IsAttribute always → k ≤ length words → take k words ≡ take k (check_words root always)
+    → ((other : List ℕ) (names : List (List ℕ)) → IsFileName other → All IsAttribute names → slice_get words k ≢ slice_get (check_words other names) k) → IsMisplaced words (k + 1)
+misplaced_at words k root always name set long front differs =
     let back : k + 1 - 1 ≡ k = omega arith in
     record {
       from_one = omega arith;
       within = omega arith;
-      before = rw back (drop k (check_words root), Check root, (name, ap (λ (w : List (List ℕ)). w ++ drop k (check_words root)) front ∙ take-append-drop k (check_words root)));
+      before = rw back (drop k (check_words root always), Check root always, (name, set, ap (λ (w : List (List ℕ)). w ++ drop k (check_words root always)) front ∙ take-append-drop k (check_words root always)));
       here = λ fits begun.
           let inside : k < length words = omega arith in
           let spelled = spelled_at (take (k + 1) words ++ begun.0) begun.1 begun.2 in
-          differs spelled.0 spelled.1 (sym (slice_get_front words begun.0 k inside) ∙ ap (λ (w : List (List ℕ)). slice_get w k) spelled.2);
+          differs spelled.root spelled.always spelled.named spelled.set (sym (slice_get_front words begun.0 k inside) ∙ ap (λ (w : List (List ℕ)). slice_get w k) spelled.words_are);
       none = λ request is.
           let spelled = spelled_at words request is in
-          differs spelled.0 spelled.1 (ap (λ (w : List (List ℕ)). slice_get w k) spelled.2);
+          differs spelled.root spelled.always spelled.named spelled.set (ap (λ (w : List (List ℕ)). slice_get w k) spelled.words_are);
     }
 
+-- the same of one of the first four words
+pub misplaced_early : (words : List (List ℕ)) (k : ℕ) (root : List ℕ) → IsFileName root → k ≤ 4 → take k words ≡ take k (check_words root [])
+    → ((other : List ℕ) (names : List (List ℕ)) → IsFileName other → slice_get words k ≢ slice_get (check_words other names) k) → IsMisplaced words (k + 1)
+misplaced_early words k root name most front differs =
+    let long : k ≤ length words = omega (arith, length-take k words, length-take k (check_words root []), ap length front) in
+    misplaced_at words k root [] name (All-nil IsAttribute) long front (λ other names named set. differs other names named)
+
 -- the words up to a place, where each word before it is as it must be
-pub front_1 : (words : List (List ℕ)) (root : List ℕ) → slice_get words 0 ≡ Some (codes "check") → take 1 words ≡ take 1 (check_words root)
+pub front_1 : (words : List (List ℕ)) (root : List ℕ) → slice_get words 0 ≡ Some (codes "check") → take 1 words ≡ take 1 (check_words root [])
 front_1 words root first = take_next words 0 (codes "check") first
 
-pub front_2 : (words : List (List ℕ)) (root : List ℕ) → slice_get words 0 ≡ Some (codes "check") → slice_get words 1 ≡ Some (codes "-") → take 2 words ≡ take 2 (check_words root)
+pub front_2 : (words : List (List ℕ)) (root : List ℕ) → slice_get words 0 ≡ Some (codes "check") → slice_get words 1 ≡ Some (codes "-") → take 2 words ≡ take 2 (check_words root [])
 front_2 words root first second = take_next words 1 (codes "-") second ∙ ap (λ (w : List (List ℕ)). w ++ codes "-" ∷ []) (front_1 words root first)
 
 pub front_3 : (words : List (List ℕ)) (root : List ℕ) → slice_get words 0 ≡ Some (codes "check") → slice_get words 1 ≡ Some (codes "-") → slice_get words 2 ≡ Some root
-    → take 3 words ≡ take 3 (check_words root)
+    → take 3 words ≡ take 3 (check_words root [])
 front_3 words root first second third = take_next words 2 root third ∙ ap (λ (w : List (List ℕ)). w ++ root ∷ []) (front_2 words root first second)
 
 pub front_4 : (words : List (List ℕ)) (root : List ℕ) → slice_get words 0 ≡ Some (codes "check") → slice_get words 1 ≡ Some (codes "-") → slice_get words 2 ≡ Some root → slice_get words 3 ≡ Some (codes "-")
-    → take 4 words ≡ check_words root
+    → take 4 words ≡ check_words root []
 front_4 words root first second third fourth = take_next words 3 (codes "-") fourth ∙ ap (λ (w : List (List ℕ)). w ++ codes "-" ∷ []) (front_3 words root first second third)
+
+-- a word behind the fourth sets an attribute
+past_front : (other : List ℕ) (names : List (List ℕ)) (j : ℕ) → slice_get (check_words other names) (suc (suc (suc (suc j)))) ≡ option_map attribute_word (slice_get names j)
+past_front other names j = slice_get-map attribute_word names j
+
+-- what a look-up among names gives, in both cases
+looked_up : (names : List (List ℕ)) (j : ℕ) → All IsAttribute names → (slice_get names j ≡ None) ⊎ ((name : List ℕ) × IsAttribute name × (slice_get names j ≡ Some name))
+looked_up names j set =
+    elim (cases_lt j (length names)) [
+      | inl below ↦ inr (get_or names j [], All-get_or IsAttribute names j [] below set, slice_get-get_or names j [] below)
+      | inr past ↦ inl (slice_get_past names j past)
+    ]
+
+-- the first k words are those of a check, and the next one, behind the fourth, sets no attribute
+pub no_attribute_at : (words : List (List ℕ)) (root : List ℕ) (position : ℕ) → IsFileName root → take 4 words ≡ check_words root [] → IsNoAttribute words position → IsMisplaced words position
+no_attribute_at words root position name front wrong =
+    let from = wrong.behind in
+    let upto = wrong.within in
+    let k = position - 1 in
+    let back : k + 1 ≡ position = omega arith in
+    let same : take k words ≡ check_words root wrong.names = wrong.before ∙ ap (λ (w : List (List ℕ)). w ++ map attribute_word wrong.names) front in
+    let long : k ≤ length words = omega arith in
+    let whole : take k words ≡ take k (check_words root wrong.names) = sym (take-take k k words (omega arith)) ∙ ap (take k) same in
+    let place : suc (suc (suc (suc (k - 4)))) ≡ k = omega arith in
+    let read = slice_get-get_or words k [] (omega arith) in
+    subst (λ (n : ℕ). IsMisplaced words n) back (misplaced_at words k root wrong.names name wrong.names_are long whole
+    (λ other names named set e.
+    let there : slice_get words k ≡ option_map attribute_word (slice_get names (k - 4)) = e ∙ ap (λ (n : ℕ). slice_get (check_words other names) n) (sym place) ∙ past_front other names (k - 4) in
+    elim (looked_up names (k - 4) set) [
+      | inl none ↦ none-some _ (sym (there ∙ ap (option_map attribute_word) none) ∙ read)
+      | inr found ↦ wrong.here found.0 found.1 (there ∙ ap (option_map attribute_word) found.2)
+    ]))
 
 -- where some words are those of a request, fewer of them are
 fewer_front : (words : List (List ℕ)) (few many : ℕ) → few ≤ many → IsFront (take many words) → IsFront (take few words)
@@ -96,6 +144,22 @@ one_position words p q at_p at_q =
       | inr (inr more) ↦ absurd (not_before words q p at_q at_p more)
     ]
 
+-- a word that sets an attribute sets one alone
+same_attributes : (names others : List (List ℕ)) → map attribute_word names ≡ map attribute_word others → names ≡ others
+same_attributes [] [] e = refl
+same_attributes [] (other ∷ others) e = cc
+same_attributes (name ∷ names) [] e = cc
+same_attributes (name ∷ names) (other ∷ others) e =
+    let first : name ≡ other = cc in
+    let rest : map attribute_word names ≡ map attribute_word others = cc in
+    let behind = same_attributes names others rest in
+    cc
+
 -- words ask for one request at most
 pub same_request : (words : List (List ℕ)) (request other : Request) → Spells words request → Spells words other → request ≡ other
-same_request words (Check root) (Check name) spelled also = let both = sym spelled.1 ∙ also.1 in let same : root ≡ name = cc in ap Check same
+same_request words (Check root always) (Check name names) spelled also =
+    let both = sym spelled.2 ∙ also.2 in
+    let same : root ≡ name = cc in
+    let rest : map attribute_word always ≡ map attribute_word names = cc in
+    let set = same_attributes always names rest in
+    cc

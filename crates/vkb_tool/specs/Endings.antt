@@ -46,11 +46,11 @@ IsUnwritten old new = new.written ≡ old.written
 
 -- a request for which files are read from the shelf
 abbrev pub MayRead : Request → Type 0
-MayRead (Check root) = ⊤
+MayRead (Check root always) = ⊤
 
 -- a request for which files are put on the shelf
 abbrev pub MayPut : Request → Type 0
-MayPut (Check root) = ⊥
+MayPut (Check root always) = ⊥
 
 -- 1. The run was carried out: its output is appended, its puts are done in order, all other names stay, and no count rose.
 pub record Completes (words : List (List ℕ)) (files : Files) (status : Status) (old new : World) : Type 0 where

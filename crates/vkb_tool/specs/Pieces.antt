@@ -1,36 +1,47 @@
 -- The built text at a choice, piece by piece, with its anchors and links.
-use Rattle.std.specs.Prelude.{ℕ, ◌+◌, Bool, not, List, [], map, filter, count_by, slice_range, if◌then◌else◌}
-use Rattle.std.specs.List.{flat_map, enumerate_from}
+use Rattle.std.specs.Prelude.{ℕ, ◌+◌, Bool, true, false, not, List, [], ◌∷◌, map, filter, count_by, slice_range, if◌then◌else◌}
+use Rattle.std.specs.List.{flat_map, enumerate_from, zip}
 use Rattle.std.specs.Str.{bytes_eq}
 use Rattle.doc_marks.specs.Marks.{marks_of}
 use Rattle.doc_marks.specs.declared.Mark.{Mark}
+use Rattle.doc_cond.specs.declared.LineKind.{LineKind}
+use Rattle.doc_cond.specs.declared.LineKind.TheVariants.{Plain, Comment, Other, OneLine, Refpage}
 use Rattle.vkb_tool.specs.declared.verdict.Place.{Place}
-use Rattle.vkb_tool.specs.Lines.{is_comment}
+use Rattle.vkb_tool.specs.Conditions.{is_kept}
+use Rattle.vkb_tool.specs.Document.{Document}
 
--- one value for each option: whether it is chosen
-abbrev pub Choice : Type 0
-Choice = List Bool
-
--- A line of the built text: the flat line that gives it, from 0; its statement's number, or 0; the byte of that line, or of the
--- statement's, at which it starts; whether marks are read in it; its bytes.
+-- a line of the built text
 pub record Piece : Type 0 where
+  -- the flat line that gives it, from 0
   pub line : ℕ
+  -- its statement's number, or 0
   pub statement : ℕ
+  -- the byte of the flat line, or of its statement's line, at which it starts
   pub start : ℕ
+  -- whether marks are read in it
   pub marked : Bool
   pub bytes : List ℕ
 
--- the piece that a line gives: itself, with marks unless it is a comment
-abbrev pub piece_at : ℕ → List ℕ → Piece
-piece_at number line = record { line = number; statement = 0; start = 0; marked = not (is_comment line); bytes = line }
+-- a line as it stands
+abbrev pub whole_piece : ℕ → Bool → List ℕ → Piece
+whole_piece number marked line = record { line = number; statement = 0; start = 0; marked = marked; bytes = line }
+
+-- What a line gives: itself, or a one-line form its text. Openers, closers and the includes of known forms give nothing of their own.
+abbrev pub pieces_at : ℕ → List ℕ → LineKind → List Piece
+pieces_at number line Plain = whole_piece number true line ∷ []
+pieces_at number line Comment = whole_piece number false line ∷ []
+pieces_at number line Other = whole_piece number false line ∷ []
+pieces_at number line (Refpage name) = whole_piece number false line ∷ []
+pieces_at number line (OneLine negated any names from to) = record { line = number; statement = 0; start = from; marked = true; bytes = slice_range line from to } ∷ []
+pieces_at number line _ = []
 
 -- what all lines give, kept or not
-abbrev pub all_pieces : List (List ℕ) → List Piece
-all_pieces lines = map (λ p. piece_at p.0 p.1) (enumerate_from 0 lines)
+abbrev pub all_pieces : List (List ℕ) → List LineKind → List Piece
+all_pieces lines kinds = flat_map (λ p. pieces_at p.0 p.1.0 p.1.1) (enumerate_from 0 (zip lines kinds))
 
--- the built text at a choice: what the kept lines give, in order; no line has a condition, so each is kept at every choice
-abbrev pub pieces_of : List (List ℕ) → Choice → List Piece
-pieces_of lines choice = all_pieces lines
+-- the built text where these names are set: what the kept lines give, in order
+abbrev pub pieces_of : Document → List (List ℕ) → List Piece
+pieces_of d set = filter (λ piece. is_kept d.kinds d.pairs set piece.line) (all_pieces d.lines d.kinds)
 
 -- the marks that are read in a piece
 abbrev pub marks_in : Piece → List Mark

@@ -1,7 +1,8 @@
 -- The words of a request, and where words that are none stop being the words of one.
-use Rattle.std.specs.Prelude.{◌≡◌, ◌≢◌, ℕ, ◌+◌, ◌-◌, ◌≤◌, List, [], ◌∷◌, ◌++◌, length, take, map, slice_get, Some, codes, Vec, ⊤}
+use Rattle.std.specs.Prelude.{◌≡◌, ◌≢◌, ℕ, ◌+◌, ◌-◌, ◌≤◌, List, [], ◌∷◌, ◌++◌, length, take, map, codes, Vec, ⊤, All, IsTrue}
 use Rattle.std.specs.declared.alloc.Global.{Global}
 use Rattle.std.specs.Str.{IsUtf8}
+use Rattle.doc_cond.specs.Lines.{is_name_byte, is_run}
 use Rattle.vkb_tool.specs.declared.words.Request.{Request}
 use Rattle.vkb_tool.specs.declared.words.Request.TheVariants.{Check}
 use Rattle.vkb_tool.specs.declared.words.WordFault.{WordFault}
@@ -12,13 +13,17 @@ pub record IsFileName (name : List ℕ) : Type 0 where
   pub some : name ≢ []
   pub text : IsUtf8 name
 
--- a file's name stands at an index, from 0
-abbrev pub IsNamed : List (List ℕ) → ℕ → List ℕ → Type 0
-IsNamed words at name = (slice_get words at ≡ Some name) × IsFileName name
+-- the name of an attribute that is always set: one or more letters, digits, `_` and `-`
+abbrev pub IsAttribute : List ℕ → Type 0
+IsAttribute name = IsTrue (is_run is_name_byte name)
+
+-- the word by which a request sets an attribute
+abbrev pub attribute_word : List ℕ → List ℕ
+attribute_word name = codes "+" ++ name
 
 -- the words that ask for a request
 abbrev pub Spells : List (List ℕ) → Request → Type 0
-Spells words (Check root) = IsFileName root × (words ≡ codes "check" ∷ codes "-" ∷ root ∷ codes "-" ∷ [])
+Spells words (Check root always) = IsFileName root × All IsAttribute always × (words ≡ codes "check" ∷ codes "-" ∷ root ∷ codes "-" ∷ map attribute_word always)
 
 -- some request begins with these words
 abbrev pub IsFront : List (List ℕ) → Type 0

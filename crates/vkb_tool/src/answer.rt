@@ -53,7 +53,12 @@ pub fn answer_words<S: Shelf>(
     ensures puts { S.put_faults shelf.new ≡ S.put_faults shelf.old }
 {
     match read_words(alloc, words) {
-        Ok(Request::Check { root }) => check(alloc, shelf, root.as_str()),
+        Ok(Request::Check { root, always }) => check(
+            alloc,
+            shelf,
+            root.as_str(),
+            always.as_slice(),
+        ),
         Err(WordFault::Usage { position }) => Ok(misplaced(alloc, position)?),
         Err(WordFault::Memory) => Err(Trouble::NoMemory),
     }

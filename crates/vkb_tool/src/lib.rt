@@ -1,18 +1,23 @@
 //! What a run of `vkbuild` does: it reads the words of a request, reads the files that are asked for, and answers with a report.
 #![tactic(auto)]
 
-mod anchors;
 mod answer;
 mod check;
+mod choices;
+mod conditions;
+mod document;
 mod fault;
 mod laws;
 mod lines;
 mod memory;
+mod mentions;
+mod obstacle;
+mod options;
 mod program;
 mod report;
 mod search;
 mod status;
-mod tally;
+mod survey;
 mod verdict;
 mod words;
 

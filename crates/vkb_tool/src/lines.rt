@@ -1,7 +1,6 @@
-ghost use Rattle.std.specs.Prelude.{◌≡◌, ◌<◌, ◌≤◌, ◌++◌, [], ◌∷◌, length, IsNone};
+ghost use Rattle.std.specs.Prelude.{◌≡◌, ◌<◌, ◌++◌, [], ◌∷◌, length, IsNone};
 ghost use Rattle.std.specs.Option.{option_copied, option_to_list};
-ghost use Rattle.vkb_tool.specs.Lines.{lines_of, is_comment, is_unbuilt};
-ghost use Rattle.vkb_tool.specs.Outcome.{most_bytes, unbuilt_numbers, IsFirstOf};
+ghost use Rattle.vkb_tool.specs.Lines.{lines_of};
 
 use memchr::memchr;
 use std::marker::Model;
@@ -50,39 +49,4 @@ fn split_line(text: &[u8]) -> (&[u8], &[u8])
         Some(end) => (&text[..end], &text[end + 1..]),
         None => (text, &[]),
     }
-}
-
-/// Whether a line is a comment: it begins with two slashes and no third directly after, or with four.
-pub fn is_comment(line: &[u8]) -> bool
-    ensures { result ≡ is_comment line.now }
-{
-    (line.starts_with(b"//") && !line.starts_with(b"///")) || line.starts_with(b"////")
-}
-
-/// Whether a line begins as an include, a conditional or a refpage line.
-fn is_unbuilt(line: &[u8]) -> bool
-    ensures { result ≡ is_unbuilt line.now }
-{
-    line.starts_with(b"include::")
-        || line.starts_with(b"ifdef::")
-        || line.starts_with(b"ifndef::")
-        || line.starts_with(b"endif::")
-        || line.starts_with(b"ifeval::")
-        || line.starts_with(b":refpage:")
-}
-
-/// The number, from 1, of the first line that isn't built.
-pub fn first_unbuilt(text: &[u8]) -> Option<u32>
-    requires { length text.now ≤ most_bytes }
-    ensures { IsFirstOf (unbuilt_numbers (lines_of text.now)) result }
-{
-    let mut lines = Lines::new(text);
-    let mut number = 1;
-    while let Some(line) = lines.next() {
-        if is_unbuilt(line) {
-            return Some(number);
-        }
-        number += 1;
-    }
-    None
 }

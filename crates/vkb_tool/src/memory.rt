@@ -17,3 +17,9 @@ impl<T: Drop> From<AllocFailed<T>> for Memory {
         Memory
     }
 }
+
+impl From<vkb_formula::Memory> for Memory {
+    fn from(_: vkb_formula::Memory) -> Memory {
+        Memory
+    }
+}

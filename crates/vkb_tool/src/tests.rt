@@ -37,82 +37,182 @@ fn answer_on<S: Shelf>(
     Ok((status, sink.written().to_vec(alloc)?))
 }
 
+/// Asserts what the words come to over one file of this text.
+fn says(
+    rt: &impl Abort,
+    alloc: Global,
+    text: &str,
+    words: &str,
+    written: &str,
+    wanted: Status,
+) -> Result<(), AllocError> {
+    let files = one_file(alloc, text.as_bytes())?;
+    assert!(rt; names_differ(&files));
+    let mut shelf = SureShelf::new(files);
+    let (status, output) = answer_on(rt, alloc, &mut shelf, words)?;
+    assert_eq!(rt; status, wanted, "{words} on {text:?}");
+    assert_eq!(rt;
+        output.as_slice(),
+        written.as_bytes(),
+        "{words} on {text:?}"
+    );
+    Ok(())
+}
+
+/// Asserts that a check of a text says yes, to so many links.
+fn holds(rt: &impl Abort, alloc: Global, text: &str, written: &str) -> Result<(), AllocError> {
+    says(rt, alloc, text, "check - a.adoc -", written, Status::Done)
+}
+
+/// Asserts that a check of a text names this link.
+fn breaks(rt: &impl Abort, alloc: Global, text: &str, written: &str) -> Result<(), AllocError> {
+    says(rt, alloc, text, "check - a.adoc -", written, Status::Broken)
+}
+
+/// Asserts that a check of a text is refused.
+fn refuses(rt: &impl Abort, alloc: Global, text: &str, written: &str) -> Result<(), AllocError> {
+    says(
+        rt,
+        alloc,
+        text,
+        "check - a.adoc -",
+        written,
+        Status::Refused,
+    )
+}
+
 #[test]
-fn a_file_gets_its_report(rt: HostRuntime) -> Result<(), Fail> {
+fn plain_lines_are_always_kept(rt: HostRuntime) -> Result<(), Fail> {
     let alloc = rt.alloc();
-    for (text, words, written, wanted) in [
-        (
-            "[[a]]\n<<a>>\n",
-            "check - a.adoc -",
-            "yes 1\n",
-            Status::Done,
-        ),
-        ("", "check - a.adoc -", "yes 0\n", Status::Done),
-        (
-            "[[a]] [[a]]\n  <<a,the\nwords>>\n",
-            "check - a.adoc -",
-            "no a.adoc:2:3\na 2\n",
-            Status::Broken,
-        ),
-        (
-            "[[a]]\n<<a>> <<b>>\n<<c>>",
-            "check - a.adoc -",
-            "no a.adoc:2:7\nb 0\n",
-            Status::Broken,
-        ),
-        (
-            "[[VkA]] slink:VkA\r\n",
-            "check - a.adoc -",
-            "yes 1\n",
-            Status::Done,
-        ),
-        (
-            "// <<a>>\n//// <<a>>\n/// <<b>>\n// [[b]]\n",
-            "check - a.adoc -",
-            "no a.adoc:3:5\nb 0\n",
-            Status::Broken,
-        ),
-        (
-            "[[a]]\n\nifdef::A[]\ninclude::b[]\n<<b>>\n",
-            "check - a.adoc -",
-            "refused NotBuilt a.adoc:3\n",
-            Status::Refused,
-        ),
-        (
-            ":refpage: VkA",
-            "check - a.adoc -",
-            "refused NotBuilt a.adoc:1\n",
-            Status::Refused,
-        ),
-        (
-            ":!refpage:\n <<a>>",
-            "check - a.adoc -",
-            "no a.adoc:2:2\na 0\n",
-            Status::Broken,
-        ),
-        (
-            "",
-            "check - b.adoc -",
-            "refused Missing b.adoc\n",
-            Status::Refused,
-        ),
-        ("", "", "usage 1\n", Status::Usage),
-        ("", "check - a.adoc", "usage 4\n", Status::Usage),
-        ("", "check - a.adoc vulkan", "usage 4\n", Status::Usage),
-        ("", "check - a.adoc - +X", "usage 5\n", Status::Usage),
-        ("", "check a.adoc", "usage 2\n", Status::Usage),
-        ("", "header - - X", "usage 1\n", Status::Usage),
+    holds(&rt, alloc, "", "yes 0\n")?;
+    holds(&rt, alloc, "[[a]]\n<<a>>\n", "yes 1\n")?;
+    holds(&rt, alloc, "[[VkA]] slink:VkA\r\n", "yes 1\n")?;
+    let text = "[[a]] [[a]]\n  <<a,the\nwords>>\n";
+    breaks(&rt, alloc, text, "no a.adoc:2:3\na 2\n")?;
+    let text = "[[a]]\n<<a>> <<b>>\n<<c>>";
+    breaks(&rt, alloc, text, "no a.adoc:2:7\nb 0\n")?;
+    let text = "// <<a>>\n//// <<a>>\n/// <<b>>\n// [[b]]\n";
+    breaks(&rt, alloc, text, "no a.adoc:3:5\nb 0\n")?;
+    breaks(&rt, alloc, ":!refpage:\n <<a>>", "no a.adoc:2:2\na 0\n")?;
+    Ok(())
+}
+
+#[test]
+fn each_choice_is_looked_at(rt: HostRuntime) -> Result<(), Fail> {
+    let alloc = rt.alloc();
+    let text = "ifdef::X[]\n[[a]]\nendif::X[]\n<<a>>\n";
+    breaks(&rt, alloc, text, "no a.adoc:4:1\na 0\n")?;
+    let text = "ifdef::X[]\n[[a]]\nendif::X[]\nifndef::X[]\n[[a]]\nendif::[]\n<<a>>\n";
+    holds(&rt, alloc, text, "yes 1\n")?;
+    let text = "ifdef::X[see <<a>>]\n";
+    breaks(&rt, alloc, text, "no a.adoc:1:14\na 0\nwith X\n")?;
+    let text = "[[a]]\nifdef::Y+X[]\n[[a]]\nendif::[]\nifndef::Z[<<a>>]";
+    breaks(&rt, alloc, text, "no a.adoc:5:11\na 2\nwith Y\nwith X\n")?;
+    let text = "[[a]] <<a>> <<b>>\nifdef::X,Y[]\n[[a]]\nendif::X,Y[]\nifndef::X+Y[ [[b]] ]";
+    breaks(&rt, alloc, text, "no a.adoc:1:7\na 2\nwith X\n")?;
+    let text = "[[a]] ifdef::X[] is text, <<a>>\n ifdef::X[]\n<<a>>";
+    holds(&rt, alloc, text, "yes 2\n")?;
+    Ok(())
+}
+
+#[test]
+fn names_may_be_set_always(rt: HostRuntime) -> Result<(), Fail> {
+    let alloc = rt.alloc();
+    let text = "ifdef::X[see <<a>>]\n";
+    let written = "no a.adoc:1:14\na 0\n";
+    let words = "check - a.adoc - +X";
+    says(&rt, alloc, text, words, written, Status::Broken)?;
+    let text = "ifndef::X[<<a>>]\nifdef::X,Y[[[b]]]\n<<b>>";
+    let words = "check - a.adoc - +X +Z-1_ +X";
+    says(&rt, alloc, text, words, "yes 2\n", Status::Done)?;
+    let words = "check - a.adoc - +x";
+    let written = "no a.adoc:1:11\na 0\n";
+    says(&rt, alloc, text, words, written, Status::Broken)?;
+    Ok(())
+}
+
+#[test]
+fn faults_are_told_in_their_order(rt: HostRuntime) -> Result<(), Fail> {
+    let alloc = rt.alloc();
+    let missing = "refused Missing b.adoc\n";
+    let words = "check - b.adoc -";
+    says(&rt, alloc, "", words, missing, Status::Refused)?;
+    refuses(&rt, alloc, "endif::X[]\n", "refused Unbalanced a.adoc:1\n")?;
+    refuses(
+        &rt,
+        alloc,
+        "\nifdef::X[]\n",
+        "refused Unbalanced a.adoc:2\n",
+    )?;
+    let text = "ifdef::A[]\nendif::B[]\n";
+    refuses(&rt, alloc, text, "refused Unbalanced a.adoc:2\n")?;
+    let text = "ifdef::A,B+C[]\nendif::[]\n";
+    refuses(&rt, alloc, text, "refused BadCondition a.adoc:1\n")?;
+    let text = "endif::[]\ninclude::a[]\n\nifeval::[]\n";
+    refuses(&rt, alloc, text, "refused BadCondition a.adoc:4\n")?;
+    let text = "include::a[]\nendif::[]\n";
+    refuses(&rt, alloc, text, "refused Unbalanced a.adoc:2\n")?;
+    let text = "[[a]]\n\nifdef::A[]\ninclude::b[]\n<<b>>\nendif::[]";
+    refuses(&rt, alloc, text, "refused NotBuilt a.adoc:4\n")?;
+    refuses(&rt, alloc, ":refpage: VkA", "refused NotBuilt a.adoc:1\n")?;
+    Ok(())
+}
+
+#[test]
+fn conditionals_nest_64_deep(rt: HostRuntime) -> Result<(), Fail> {
+    let alloc = rt.alloc();
+    for (depth, written, wanted) in [
+        (64, "yes 0\n", Status::Done),
+        (65, "refused CondDepth a.adoc:65\n", Status::Refused),
     ] {
-        let files = one_file(alloc, text.as_bytes())?;
-        assert!(rt; names_differ(&files));
-        let mut shelf = SureShelf::new(files);
-        let (status, output) = answer_on(&rt, alloc, &mut shelf, words)?;
-        assert_eq!(rt; status, wanted, "{words} on {text:?}");
-        assert_eq!(rt;
-            output.as_slice(),
-            written.as_bytes(),
-            "{words} on {text:?}"
-        );
+        let mut text = String::new(alloc);
+        for _ in 0..depth {
+            text.push_str("ifdef::X[]\n")?;
+        }
+        for _ in 0..depth {
+            text.push_str("endif::[]\n")?;
+        }
+        says(
+            &rt,
+            alloc,
+            text.as_str(),
+            "check - a.adoc -",
+            written,
+            wanted,
+        )?;
+    }
+    Ok(())
+}
+
+#[test]
+fn twelve_options_are_tried(rt: HostRuntime) -> Result<(), Fail> {
+    let alloc = rt.alloc();
+    let text = "ifdef::A,B,C,D,E,F,G,H,I,J,K,L[]\nendif::[]\nifdef::A+L+K[<<a>>]";
+    let written = "no a.adoc:3:14\na 0\nwith A\nwith K\nwith L\n";
+    breaks(&rt, alloc, text, written)?;
+    let text = "ifdef::A,B,C,D,E,F,G,H,I,J,K,L,M[]\nendif::[]\n";
+    refuses(&rt, alloc, text, "refused TooManyNames 13\n")?;
+    let words = "check - a.adoc - +F";
+    says(&rt, alloc, text, words, "yes 0\n", Status::Done)?;
+    let text = "ifdef::A,B,C,D,E,F,G,H,I,J,K,L,M[]\nendif::[]\ninclude::b[]";
+    refuses(&rt, alloc, text, "refused NotBuilt a.adoc:3\n")?;
+    Ok(())
+}
+
+#[test]
+fn misplaced_words_are_told(rt: HostRuntime) -> Result<(), Fail> {
+    let alloc = rt.alloc();
+    for (words, written) in [
+        ("", "usage 1\n"),
+        ("check - a.adoc", "usage 4\n"),
+        ("check - a.adoc vulkan", "usage 4\n"),
+        ("check - a.adoc - X", "usage 5\n"),
+        ("check - a.adoc - +", "usage 5\n"),
+        ("check - a.adoc - +X +a.b +Y", "usage 6\n"),
+        ("check a.adoc", "usage 2\n"),
+        ("header - - X", "usage 1\n"),
+    ] {
+        says(&rt, alloc, "", words, written, Status::Usage)?;
     }
     Ok(())
 }
@@ -128,10 +228,13 @@ fn a_name_is_text_and_some(rt: HostRuntime) -> Result<(), Fail> {
         let fault = read_words(alloc, &words).err();
         assert_eq!(rt; fault, Some(WordFault::Usage { position }));
     }
-    let words = words_of(alloc, "check - é.adoc -")?;
+    let words = words_of(alloc, "check - é.adoc - +A-1 +_")?;
     assert!(rt; words.len() < 100);
-    let Request::Check { root } = read_words(alloc, &words)?;
+    let Request::Check { root, always } = read_words(alloc, &words)?;
     assert_eq!(rt; root.as_str(), "é.adoc");
+    assert_eq!(rt; always.as_slice().len(), 2);
+    assert_eq!(rt; always.as_slice()[0].as_slice(), b"A-1".as_slice());
+    assert_eq!(rt; always.as_slice()[1].as_slice(), b"_".as_slice());
     Ok(())
 }
 

@@ -1,17 +1,19 @@
-ghost use Rattle.std.specs.Prelude.{◌≡◌, ◌≢◌, ℕ, ◌+◌, ◌^◌, ◌<◌, ◌↔◌, Some, length, map, slice_get, codes, IsTrue, List, IfSome, IfNone, IfOk, IfErr};
+ghost use Rattle.std.specs.Prelude.{◌≡◌, ◌≢◌, ℕ, ◌+◌, ◌^◌, ◌<◌, ◌≤◌, ◌↔◌, Some, length, slice_get, IsTrue, List, IfSome, IfNone, IfOk, IfErr};
 ghost use Rattle.std.specs.Option.{option_copied};
-ghost use Rattle.vkb_tool.specs.Words.{Spells, IsNamed, items_of, IsWordFault};
+ghost use Rattle.vkb_tool.specs.Reading.{IsAttributeFault, IsNamed, SetsAttributes};
+ghost use Rattle.vkb_tool.specs.Words.{IsAttribute, IsWordFault, Spells, attribute_word, items_of};
 
-use std::alloc::{AllocError, Global};
+use doc_cond::is_name;
+use std::alloc::{AllocError, AllocFailed, Global};
 use std::str;
 use thiserror::Error;
-use vkb_bytes::Text;
+use vkb_bytes::{Bytes, Listed, Text};
 
 /// What the words ask for.
 #[derive(Debug, Drop)]
 pub enum Request {
-    /// A verdict on the links of a file.
-    Check { root: Text },
+    /// A verdict on the links of a file, where these names of conditions are always set.
+    Check { root: Text, always: Listed<Bytes> },
 }
 
 /// Why words were not read.
@@ -24,7 +26,30 @@ pub enum WordFault {
     Memory,
 }
 
-/// Reads the words of a request: `check - ROOT -`, where ROOT is a file's name.
+impl From<AllocError> for WordFault {
+    ghost use Rattle.std.specs.Prelude.{◌≡◌};
+    ghost use Rattle.vkb_tool.specs.declared.words.WordFault.TheVariants.{Memory};
+
+    ghost from_gives = { λ _ fault. fault ≡ Memory };
+
+    fn from(_: AllocError) -> WordFault {
+        WordFault::Memory
+    }
+}
+
+impl<T: Drop> From<AllocFailed<T>> for WordFault {
+    ghost use Rattle.std.specs.Prelude.{◌≡◌};
+    ghost use Rattle.vkb_tool.specs.declared.words.WordFault.TheVariants.{Memory};
+
+    ghost from_gives = { λ _ fault. fault ≡ Memory };
+
+    fn from(_: AllocFailed<T>) -> WordFault {
+        WordFault::Memory
+    }
+}
+
+/// Reads the words of a request: `check - ROOT -`, where ROOT is a file's name, and then any number of `+ATTR`, where ATTR is
+/// one or more letters, digits, `_` and `-`.
 pub fn read_words(alloc: Global, words: &[Vec<u8>]) -> Result<Request, WordFault>
     requires { length words.now < 2 ^ 32 }
     ensures request { IfOk result (Spells (items_of words.now)) }
@@ -42,13 +67,42 @@ pub fn read_words(alloc: Global, words: &[Vec<u8>]) -> Result<Request, WordFault
     if !has_word(words, 3, b"-") {
         return Err(WordFault::Usage { position: 4 });
     }
-    if words.len() > 4 {
-        return Err(WordFault::Usage { position: 5 });
-    }
-    let root = String::from_str(alloc, root).map_err(|_| WordFault::Memory)?;
+    let always = attributes(alloc, words)?;
+    let root = String::from_str(alloc, root)?;
     Ok(Request::Check {
         root: Text::from_string(root),
+        always: Listed::from_vec(always),
     })
+}
+
+/// The names of the attributes that the words from the fifth on set.
+fn attributes(alloc: Global, words: &[Vec<u8>]) -> Result<Vec<Bytes>, WordFault>
+    requires few { length words.now < 2 ^ 32 }
+    requires enough { 4 ≤ length words.now }
+    ensures read { IfOk result (λ names. SetsAttributes (items_of words.now) names.items) }
+    ensures wrong { IfErr result (IsAttributeFault (items_of words.now)) }
+{
+    let mut names = Vec::new(alloc);
+    for at in 4..words.len() {
+        let Some(name) = attribute(words[at].as_slice()) else {
+            return Err(WordFault::Usage {
+                position: at as u32 + 1,
+            });
+        };
+        names.push(Bytes::from_slice(alloc, name)?)?;
+    }
+    Ok(names)
+}
+
+/// The name of the attribute that a word sets.
+fn attribute(word: &[u8]) -> Option<&[u8]>
+    ensures set { IfSome result (λ name. IsAttribute name.now × (word.now ≡ attribute_word name.now)) }
+    ensures none { IfNone result ((name : List ℕ) → IsAttribute name → word.now ≢ attribute_word name) }
+{
+    match word {
+        [b'+', name @ ..] if is_name(name) => Some(name),
+        _ => None,
+    }
 }
 
 /// The word at an index, from 0.

@@ -1,39 +1,37 @@
-use Rattle.std.proofs.Common.{refl, ap, map, ◌∙◌, subst}
-use Rattle.vkb_tool.specs.declared.status.Status.TheVariants.{Done, Broken, Refused}
+use Rattle.std.proofs.Common.{inr, ◌≡◌, ◌≤◌, ℕ, List, Result, Ok, Err, Some, length, IfOk}
+use Rattle.vkb_outside.specs.Shelf.{Files}
+use Rattle.vkb_tool.specs.declared.answer.Answer.{Answer}
+use Rattle.vkb_tool.specs.declared.fault.Flaw.{Flaw}
+use Rattle.vkb_tool.specs.declared.memory.Memory.{Memory}
+use Rattle.vkb_tool.specs.declared.status.Status.TheVariants.{Refused}
 use Rattle.vkb_tool.specs.declared.verdict.Verdict.{Verdict}
-use Rattle.vkb_tool.specs.declared.verdict.Verdict.TheVariants.{Yes, No}
 use Rattle.vkb_tool.specs.declared.words.Request.TheVariants.{Check}
-use Rattle.vkb_tool.specs.Fault.{Fault, NotBuilt}
+use Rattle.vkb_tool.specs.Answer.{effect_of}
+use Rattle.vkb_tool.specs.Fault.{fault_in}
+use Rattle.vkb_tool.specs.Judgement.{Judges}
 use Rattle.vkb_tool.specs.Lines.{lines_of}
-use Rattle.vkb_tool.specs.Outcome.{refused, answers_yes, answers_no}
+use Rattle.vkb_tool.specs.Outcome.{IsFirstTextFlaw, Outcome, most_bytes, status_of}
 use Rattle.vkb_tool.specs.Report.{fault_line, report_of}
-use Rattle.vkb_tool.specs.Verdict.{IsVerdict}
-use Rattle.vkb_tool.proofs.OutcomeLemmas.{retold, file_faults-text}
+use Rattle.vkb_tool.specs.Words.{Spells}
+use Rattle.vkb_tool.proofs.OutcomeLemmas.{judged, refusal}
 use Rattle.vkb_tool.proofs.check.judge.Goals as goal
 
-pub returns-in-Some-clause-outcome : goal.returns-in-Some-clause-outcome
-returns-in-Some-clause-outcome c = λ words files spelled held.
-    let root = c.args.root.now in
-    let fault : Fault = NotBuilt root c.in-Some.line in
-    let first = c.in-Some.ensures in
-    retold words files Refused (fault_line fault) c.in_ok-answer.answer c.in_ok-answer.ensures.status c.in_ok-answer.ensures.output
-    (refused (Check root) fault spelled (map (λ line. NotBuilt root line) first.0, file_faults-text files root c.args.text.now held c.requires ∙ ap (map (λ line. NotBuilt root line)) first.1))
+-- what the answer to a check of a text comes to
+abbrev Answers : List ℕ → List (List ℕ) → List ℕ → Answer → Type 0
+Answers root always text answer = (words : List (List ℕ)) (files : Files) → Spells words (Check root always) → files root ≡ Some text → Outcome words files (effect_of answer)
 
-pub returns-in-Yes-clause-outcome : goal.returns-in-Yes-clause-outcome
-returns-in-Yes-clause-outcome c = λ words files spelled held.
-    let root = c.args.root.now in
-    let text = c.args.text.now in
-    let is : IsVerdict (lines_of text) (Yes c.in-Yes.links) = subst (λ (v : Verdict). IsVerdict (lines_of text) v) c.in-Yes.is c.in_ok-verdict.ensures in
-    let told = c.from_vec-output.ensures ∙ c.in_ok-report.ensures ∙ ap (report_of root) c.in-Yes.is in
-    retold words files Done (report_of root (Yes c.in-Yes.links)) (record { status = Done; output = c.from_vec-output.result }) refl told
-    (answers_yes root text c.in-Yes.links spelled (file_faults-text files root text held c.requires ∙ ap (map (λ line. NotBuilt root line)) c.in_default.ensures) held is)
+told : (root : List ℕ) (always : List (List ℕ)) (text : List ℕ) (options : List (List ℕ)) (verdict : Verdict) (result : Result Answer Memory) → length text ≤ most_bytes → Judges always (lines_of text) options verdict
+    → IfOk result (λ answer. answer.status ≡ status_of verdict) → IfOk result (λ answer. answer.output ≡ report_of root options verdict) → IfOk result (Answers root always text)
+told root always text options verdict (Ok answer) short is status output = λ words files spelled held. judged words files root always text options verdict answer spelled held short is status output
+told root always text options verdict (Err e) short is status output = tt
 
-pub returns-clause-outcome : goal.returns-clause-outcome
-returns-clause-outcome c = λ words files spelled held.
-    let root = c.args.root.now in
-    let text = c.args.text.now in
-    let broken = c.in-No in
-    let is : IsVerdict (lines_of text) (No broken.place broken.id broken.choice broken.count) = subst (λ (v : Verdict). IsVerdict (lines_of text) v) broken.is c.in_ok-verdict.ensures in
-    let told = c.from_vec-output.ensures ∙ c.in_ok-report.ensures ∙ ap (report_of root) broken.is in
-    retold words files Broken (report_of root (No broken.place broken.id broken.choice broken.count)) (record { status = Broken; output = c.from_vec-output.result }) refl told
-    (answers_no root text broken.place broken.id broken.choice broken.count spelled (file_faults-text files root text held c.requires ∙ ap (map (λ line. NotBuilt root line)) c.in_default.ensures) held is)
+pub returns-in-Ok-clause-outcome : goal.returns-in-Ok-clause-outcome
+returns-in-Ok-clause-outcome c = told c.args.root.now c.args.always.now c.args.text.now c.in-Ok.judgement.options.free c.in-Ok.judgement.verdict c.tell.result c.requires c.in-Ok.ensures.judged c.tell.ensures.status c.tell.ensures.output
+
+refused_text : (root : List ℕ) (always : List (List ℕ)) (text : List ℕ) (flaw : Flaw) (result : Result Answer Memory) → length text ≤ most_bytes → IsFirstTextFlaw always (lines_of text) flaw
+    → IfOk result (λ answer. answer.status ≡ Refused) → IfOk result (λ answer. answer.output ≡ fault_line (fault_in root flaw)) → IfOk result (Answers root always text)
+refused_text root always text flaw (Ok answer) short is status output = λ words files spelled held. refusal words files root always (Some text) flaw answer spelled held (inr (short, is)) status output
+refused_text root always text flaw (Err e) short is status output = tt
+
+pub returns-in-Err-Flawed-clause-outcome : goal.returns-in-Err-Flawed-clause-outcome
+returns-in-Err-Flawed-clause-outcome c = refused_text c.args.root.now c.args.always.now c.args.text.now c.in-Err-Flawed.flaw c.refuse.result c.requires (rw c.in-Err-Flawed.field-0-is at c.in-Err-Flawed.ensures.obstacle) c.refuse.ensures.status c.refuse.ensures.output

@@ -1,0 +1,8 @@
+use Rattle.std.proofs.Common.{◌≡◌, ◌++◌, take}
+use Rattle.std.specs.List.{flat_map}
+use Rattle.vkb_tool.specs.Conditions.{chosen_of}
+use Rattle.vkb_tool.specs.Report.{with_line}
+use Rattle.vkb_tool.proofs.report.add_choice.Given as goal
+
+abbrev pub invariant-loop-option : goal.invariant-loop-option
+invariant-loop-option l = l.text.items ≡ l.fn.text.items ++ flat_map with_line (chosen_of (take l.option l.options.free) (take l.option l.choice))
