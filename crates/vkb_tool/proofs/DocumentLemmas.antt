@@ -45,13 +45,13 @@ first_bad done rest line kinds number all numbered bad =
 -- ---- a document without flaws
 
 -- where each line has a kind, none is bad
-bad_nowhere : (lines : List (List ℕ)) (kinds : List LineKind) → AllZip IsKind lines kinds → (k : ℕ) → ¬ IsBadAt lines k
+pub bad_nowhere : (lines : List (List ℕ)) (kinds : List LineKind) → AllZip IsKind lines kinds → (k : ℕ) → ¬ IsBadAt lines k
 bad_nowhere lines kinds all k bad =
     let at_end = append-nil lines in
     none_bad lines [] kinds all k (slice_get_within lines k bad.0 bad.1) (subst (λ (ls : List (List ℕ)). IsBadAt ls k) (sym at_end) bad)
 
 -- a line that opens or closes is one of the lines
-within_kinds : (test : LineKind → Bool) (kinds : List LineKind) (line : ℕ) → test Plain ≡ false → test (kind_at kinds line) ≡ true → line < length kinds
+pub within_kinds : (test : LineKind → Bool) (kinds : List LineKind) (line : ℕ) → test Plain ≡ false → test (kind_at kinds line) ≡ true → line < length kinds
 within_kinds test kinds line plain is =
     elim (cases_lt line (length kinds)) [
       | inl below ↦ below
@@ -79,14 +79,14 @@ opener_paired kinds pairs are line is =
     (listed.0, below, sym (get_or-map (λ pair. pair.0) pairs listed.0 (0, 0) line below) ∙ listed.2)
 
 -- openers and closers in pairs balance
-balanced : (kinds : List LineKind) (pairs : List (ℕ × ℕ)) → ArePairs kinds pairs → (line : ℕ) → ¬ IsFirstFault kinds (cond.Unbalanced line)
+pub balanced : (kinds : List LineKind) (pairs : List (ℕ × ℕ)) → ArePairs kinds pairs → (line : ℕ) → ¬ IsFirstFault kinds (cond.Unbalanced line)
 balanced kinds pairs are line (inl loose) = are.faultless line (within_kinds is_closer kinds line refl loose.0.closes) (inl loose.0)
 balanced kinds pairs are line (inr left) =
     let found = opener_paired kinds pairs are line left.left.opens in
     left.left.unclosed (get_or pairs found.0 (0, 0)).1 (subst (λ (opener : ℕ). IsCloserOf kinds opener (get_or pairs found.0 (0, 0)).1) found.2 (are.closers found.0 (0, 0) found.1))
 
 -- and are not too deep
-shallow : (kinds : List LineKind) (pairs : List (ℕ × ℕ)) → ArePairs kinds pairs → (line : ℕ) → ¬ IsFirstFault kinds (cond.CondDepth line)
+pub shallow : (kinds : List LineKind) (pairs : List (ℕ × ℕ)) → ArePairs kinds pairs → (line : ℕ) → ¬ IsFirstFault kinds (cond.CondDepth line)
 shallow kinds pairs are line deep = are.faultless line (within_kinds is_opener kinds line refl deep.0.opens) (inr deep.0)
 
 module _ (one : (line : List ℕ) (kind other : LineKind) → IsKind line kind → IsKind line other → kind ≡ other) where

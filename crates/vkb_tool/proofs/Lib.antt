@@ -2,8 +2,10 @@ pub mod ZipLemmas
 pub mod WordsLemmas
 pub mod LinesLemmas
 pub mod DocumentLemmas
+pub mod LawLemmas
 pub mod SettingLemmas
 pub mod MentionLemmas
+pub mod OptionsLemmas
 pub mod EnclosingLemmas
 pub mod NodesLemmas
 pub mod AroundLemmas
@@ -13,6 +15,7 @@ pub mod SurveyLemmas
 pub mod ChoicesLemmas
 pub mod SearchLemmas
 pub mod VerdictLemmas
+pub mod AgreementLemmas
 pub mod ReportLemmas
 pub mod OutcomeLemmas
 pub mod EndingsLemmas

@@ -1,5 +1,5 @@
 -- The text of reports and fault lines. Numbers are decimal, and each line ends in a line feed.
-use Rattle.std.specs.Prelude.{ℕ, ◌+◌, ◌==◌, List, [], ◌∷◌, ◌++◌, codes, decimal, if◌then◌else◌}
+use Rattle.std.specs.Prelude.{◌≡◌, ℕ, ◌+◌, ◌==◌, List, [], ◌∷◌, ◌++◌, codes, decimal, if◌then◌else◌}
 use Rattle.std.specs.List.{flat_map}
 use Rattle.vkb_tool.specs.declared.verdict.Place.{Place}
 use Rattle.vkb_tool.specs.declared.verdict.Verdict.{Verdict}
@@ -53,3 +53,7 @@ fault_line (Unbalanced file line) = line_fault_line (codes "Unbalanced") file li
 fault_line (CondDepth file line) = line_fault_line (codes "CondDepth") file line
 fault_line (NotBuilt file line) = line_fault_line (codes "NotBuilt") file line
 fault_line (TooManyNames count) = codes "refused TooManyNames " ++ decimal count ++ line_feed
+
+-- the output is a report that names this link of a file as broken, with some count and some choice
+abbrev pub NamesLink : List ℕ → List ℕ → Place → List ℕ → Type 0
+NamesLink output file place id = (count : ℕ) × (chosen : List ℕ) × (output ≡ broken_lines file place id count ++ chosen)

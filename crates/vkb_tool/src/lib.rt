@@ -21,7 +21,10 @@ mod survey;
 mod verdict;
 mod words;
 
-pub use laws::{lines_join, one_reading};
+pub use laws::{
+    lines_join, one_document, one_fault, one_outcome, one_reading, one_verdict,
+    options_follow_the_rule, permitted_choices,
+};
 pub use memory::Memory;
 pub use program::run;
 pub use status::Status;

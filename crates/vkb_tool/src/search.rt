@@ -2,6 +2,7 @@ ghost use Rattle.std.specs.Prelude.{◌≡◌, ℕ, ◌<◌, ◌≤◌, not, ◌
 ghost use Rattle.vkb_formula.specs.Pools.{pool_reach, pool_values};
 ghost use Rattle.vkb_tool.specs.declared.survey.LinkSite.{LinkSite};
 ghost use Rattle.vkb_tool.specs.Keeping.{is_on};
+ghost use Rattle.vkb_tool.specs.Outcome.{most_options};
 ghost use Rattle.vkb_tool.specs.Search.{BreaksFirst, NeverBreaks, anchors_on, is_broken};
 
 use crate::Memory;
@@ -28,7 +29,7 @@ pub fn search(
     anchors: &[AnchorSite],
     links: &[LinkSite],
 ) -> Result<Option<Broken>, Memory>
-    requires few { options ≤ 12 }
+    requires few { options ≤ most_options }
     requires reach { pool_reach pool.now ≤ options }
     requires anchor_nodes { All (λ a. a.node.0 < length pool.now) anchors.now }
     requires link_nodes { All (λ l. l.node.0 < length pool.now) links.now }

@@ -291,6 +291,12 @@ fn a_failed_write_leaves_a_prefix(rt: HostRuntime) -> Result<(), Fail> {
 fn statuses_have_their_numbers(rt: HostRuntime) {
     one_reading();
     lines_join();
+    one_document();
+    one_fault();
+    one_verdict();
+    one_outcome();
+    options_follow_the_rule();
+    permitted_choices();
     assert_eq!(rt; Status::Done.number(), 0);
     assert_eq!(rt; Status::Broken.number(), 1);
     assert_eq!(rt; Status::Usage.number(), 2);
