@@ -45,11 +45,13 @@ pub enum Verdict {
     Yes {
         links: u64,
     },
-    /// The first link that hasn't at some choice, with its id and its count of anchors at that choice.
+    /// The first link that hasn't at some choice.
     No {
         place: Place,
         id: Bytes,
+        /// One such choice: for each option, in order, whether it is chosen.
         choice: Listed<bool>,
+        /// How many anchors the id has at that choice.
         count: u64,
     },
 }
