@@ -2,12 +2,8 @@
 # The time that `check` takes against the size of the text, on texts made from the glossary that Debian's git-doc ships.
 #   bench/check.sh            (needs `apt-get install git-doc`, and the program built by ./vkbuild)
 set -eu
-top=$(cd "$(dirname "$0")/.." && pwd)
 glossary=$( (dpkg -L git-doc || true) 2>/dev/null | grep glossary-content.txt) || { echo "bench: git-doc isn't installed: apt-get install git-doc" >&2; exit 2; }
-"$top/vkbuild" >/dev/null 2>&1 || true
-work=$(mktemp -d)
-trap 'rm -rf "$work"' EXIT
-cd "$work"
+source "$(dirname "$0")/timed_check.sh"
 # Each copy has ids of its own, so that each link of it has its one anchor.
 for copies in 1 60 120 240 360; do
   python3 - "$glossary" "$copies" <<'P' >text.adoc
@@ -17,8 +13,6 @@ for copy in range(int(sys.argv[2])):
     sys.stdout.write(re.sub(r"(\[\[|<<)([A-Za-z0-9_:][A-Za-z0-9_:.-]*)(?=\]\]|>>|,)", rf"\g<1>\g<2>-{copy}", text))
 P
   size=$(stat -c %s text.adoc)
-  start=$(date +%s.%N)
-  answer=$("$top/vkbuild" check - text.adoc -)
-  end=$(date +%s.%N)
-  printf '%9d bytes  %-14s %.2f s\n' "$size" "$answer" "$(echo "$end - $start" | bc)"
+  timed_check
+  printf '%9d bytes  %-14s %.2f s\n' "$size" "$answer" "$seconds"
 done

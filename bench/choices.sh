@@ -1,12 +1,7 @@
 #!/bin/bash
 # The time that `check` takes over all choices of 12 options, against the size of the text.
 #   bench/choices.sh            (needs python3, and the program built by ./vkbuild)
-set -eu
-top=$(cd "$(dirname "$0")/.." && pwd)
-"$top/vkbuild" >/dev/null 2>&1 || true
-work=$(mktemp -d)
-trap 'rm -rf "$work"' EXIT
-cd "$work"
+source "$(dirname "$0")/timed_check.sh"
 # Each block has a condition on two of the options, an anchor under it and the same anchor under its opposite, links to it and
 # plain lines. So every link holds at all 4,096 choices, and each choice has to be looked at.
 for blocks in 30 300 1400; do
@@ -25,8 +20,6 @@ for b in range(blocks):
 P
   size=$(stat -c %s text.adoc)
   count=$(wc -l <text.adoc)
-  start=$(date +%s.%N)
-  answer=$("$top/vkbuild" check - text.adoc -)
-  end=$(date +%s.%N)
-  printf '%9d bytes  %7d lines  %5d conditionals  %-10s %.2f s\n' "$size" "$count" "$((2 * blocks))" "$answer" "$(echo "$end - $start" | bc)"
+  timed_check
+  printf '%9d bytes  %7d lines  %5d conditionals  %-10s %.2f s\n' "$size" "$count" "$((2 * blocks))" "$answer" "$seconds"
 done
