@@ -6,7 +6,7 @@ ghost use Rattle.vkb_tool.specs.Options.{IsSetting};
 use std::marker::Model;
 use vkb_formula::Names;
 
-/// The names that conditions mention: first those that are always set, and then the options, each once.
+/// The names that are always set, and behind them the options, each once.
 #[derive(Drop)]
 pub struct Options {
     names: Names,
