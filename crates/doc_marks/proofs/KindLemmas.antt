@@ -6,9 +6,9 @@ use Rattle.std.proofs.lemmas.Bool.{cases_Bool, cond-true, cond-false, eqb-false,
 use Rattle.std.proofs.lemmas.Bool.Decides.{Decides-eqb}
 use Rattle.std.proofs.lemmas.List.{drop-drop}
 use Rattle.std.proofs.lemmas.Slice.Eq.{starts_is}
-use Rattle.vkb_bytes.specs.Bytes.{is_word_byte}
+use Rattle.vkb_bytes.specs.Bytes.{begins, is_word_byte}
 use Rattle.doc_marks.specs.declared.Mark.{Mark}
-use Rattle.doc_marks.specs.Ids.{begins, id_len}
+use Rattle.doc_marks.specs.Ids.{id_len}
 use Rattle.doc_marks.specs.Marks.{comes_after, is_backslash, macro_names, macro_len, closed_id_len, mark_with, mark_at}
 use Rattle.doc_marks.specs.Spelling.{StandsAt, IsId, IsWord, IsBracketed, IsMacro, IsMarkOf}
 use Rattle.doc_marks.proofs.PlaceLemmas.{MacroAt, mark_at-chosen, has_name, begins_is, find_some, find_known, macro_from_name, picked, reads_text}

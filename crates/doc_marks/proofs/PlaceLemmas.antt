@@ -9,9 +9,8 @@ use Rattle.std.proofs.lemmas.List.Elements.{All-contains}
 use Rattle.std.proofs.lemmas.List.Prefix.{front_fits, front_reads}
 use Rattle.std.proofs.lemmas.List.Sums.{AllPass-from_list_all}
 use Rattle.std.proofs.lemmas.Slice.Eq.{starts_is}
-use Rattle.vkb_bytes.specs.Bytes.{is_letter, is_word_byte}
+use Rattle.vkb_bytes.specs.Bytes.{begins, is_letter, is_word_byte}
 use Rattle.doc_marks.specs.declared.Mark.{Mark}
-use Rattle.doc_marks.specs.Ids.{begins}
 use Rattle.doc_marks.specs.Marks.{comes_after, is_backslash, macro_names, macro_len, closed_id_len, mark_with, mark_at}
 
 -- what a choice of four marks says where it gives one

@@ -8,8 +8,8 @@ use Rattle.std.proofs.lemmas.List.{take-append-drop, length-take-le}
 use Rattle.std.proofs.lemmas.List.Elements.{All-nil, All-cons, All-head, All-tail}
 use Rattle.std.proofs.lemmas.List.Prefix.{front_fits}
 use Rattle.std.proofs.lemmas.List.Sums.{prefix_len_passes, prefix_len_stops, prefix_len-le-length}
-use Rattle.vkb_bytes.specs.Bytes.{is_word_byte}
-use Rattle.doc_marks.specs.Ids.{begins, refpage, first_passes, is_id_start, is_id_byte, piece_len, pieces_len, id_len}
+use Rattle.vkb_bytes.specs.Bytes.{begins, is_word_byte}
+use Rattle.doc_marks.specs.Ids.{refpage, first_passes, is_id_start, is_id_byte, piece_len, pieces_len, id_len}
 use Rattle.doc_marks.specs.Spelling.{IsPiece, IsId, IsWord, IsLongest}
 use Rattle.doc_marks.proofs.PlaceLemmas.{begins_is, picked}
 use Rattle.doc_marks.proofs.IdLemmas.{pieces_len_step}

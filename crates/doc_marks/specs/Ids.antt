@@ -1,11 +1,6 @@
 -- The ids of anchors and links, as they are written in a line.
-use Rattle.std.specs.Prelude.{ℕ, zero, suc, ◌+◌, Bool, false, ◌||◌, ◌==◌, nat_eq, List, [], ◌∷◌, length, drop, codes, if◌then◌else◌}
-use Rattle.std.specs.List.{starts_with}
-use Rattle.vkb_bytes.specs.Bytes.{is_word_byte}
-
--- the bytes begin with the text
-abbrev pub begins : List ℕ → List ℕ → Bool
-begins bytes text = starts_with nat_eq bytes text
+use Rattle.std.specs.Prelude.{ℕ, zero, suc, ◌+◌, Bool, false, ◌||◌, ◌==◌, List, [], ◌∷◌, length, drop, codes, if◌then◌else◌}
+use Rattle.vkb_bytes.specs.Bytes.{begins, is_word_byte}
 
 -- the attribute in whose place an id has the name of a page
 abbrev pub refpage : List ℕ

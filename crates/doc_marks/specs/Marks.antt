@@ -1,9 +1,9 @@
 -- The marks of a line of a specification's AsciiDoc: its anchors, and its links by brackets and by macros.
 use Rattle.std.specs.Prelude.{ℕ, ◌+◌, ◌-◌, ◌<◌, ◌≤◌, Bool, true, false, ◌||◌, ◌&&◌, ◌==◌, nat_lt, List, [], ◌∷◌, length, drop, slice_index, codes, Option, None, Some, option_map, unwrap_or, if◌then◌else◌}
 use Rattle.std.specs.List.{filter_map, find, prefix_len, range_with_len}
-use Rattle.vkb_bytes.specs.Bytes.{is_word_byte}
+use Rattle.vkb_bytes.specs.Bytes.{begins, is_word_byte}
 use Rattle.doc_marks.specs.declared.Mark.{Mark}
-use Rattle.doc_marks.specs.Ids.{begins, id_len}
+use Rattle.doc_marks.specs.Ids.{id_len}
 
 -- a byte that passes stands directly before the place
 abbrev pub comes_after : (ℕ → Bool) → List ℕ → ℕ → Bool

@@ -1,8 +1,8 @@
 //! The ids of anchors and links, as they are written.
 ghost use Rattle.std.specs.Prelude.{◌≡◌, ◌≤◌, length, if◌then◌else◌};
 ghost use Rattle.std.specs.List.{prefix_len};
-ghost use Rattle.vkb_bytes.specs.Bytes.{is_word_byte};
-ghost use Rattle.doc_marks.specs.Ids.{begins, id_len, is_id_byte, is_id_start, piece_len, refpage};
+ghost use Rattle.vkb_bytes.specs.Bytes.{begins, is_word_byte};
+ghost use Rattle.doc_marks.specs.Ids.{id_len, is_id_byte, is_id_start, piece_len, refpage};
 
 use vkb_bytes::is_word_byte;
 

@@ -1,10 +1,12 @@
 -- What a reference begins with.
 use Rattle.std.proofs.Common.{◌≡◌, ℕ, zero, suc, ◌+◌, ◌-◌, ◌*◌, ◌<◌, ◌≤◌, Bool, true, false, ◌&&◌, cond, List, [], ◌∷◌, ◌++◌, length, take, refl, sym, ap, ◌∙◌, arith}
 use Rattle.std.specs.Prelude.{slice_index, codes, nat_le, ◌==◌}
+use Rattle.std.specs.Char.{digit_value}
 use Rattle.std.specs.List.{list_all}
 use Rattle.std.proofs.lemmas.Bool.{cond-true, cond-false, and_parts, and_from, le-leb, ne_eqb, false≢true}
 use Rattle.vkb_bytes.specs.Bytes.{is_digit}
-use Rattle.reg_reader.specs.Markup.{IsReference, is_hexadecimal, hexadecimal_digit, hexadecimal_of, decimal_of}
+use Rattle.vkb_bytes.specs.Numbers.{is_digit_in, number_in}
+use Rattle.reg_reader.specs.Markup.{IsReference}
 use Rattle.reg_reader.specs.References.{number_end, partial_if, in_hexadecimal, in_decimal, in_number, progress_of}
 use Rattle.reg_reader.specs.declared.reference.Progress.TheVariants as progress
 
@@ -38,45 +40,45 @@ decimal-one : (a : ℕ) → is_digit a ≡ true → in_number (a ∷ []) ≡ pro
 decimal-one a e = digits-number a [] e ∙ cond-true (is_digit a) _ _ e
 
 decimal-two : (a b : ℕ) → is_digit a ≡ true → is_digit b ≡ true → in_number (a ∷ b ∷ []) ≡ progress.Partial
-decimal-two a b e f = digits-number a (b ∷ []) e ∙ cond-true (is_digit a) (cond (is_digit b) progress.Partial (number_end b (a - 48))) progress.Wrong e ∙ cond-true (is_digit b) progress.Partial (number_end b (a - 48)) f
+decimal-two a b e f = digits-number a (b ∷ []) e ∙ cond-true (is_digit a) (cond (is_digit b) progress.Partial (number_end b (digit_value a))) progress.Wrong e ∙ cond-true (is_digit b) progress.Partial (number_end b (digit_value a)) f
 
-decimal-three : (a b c : ℕ) → is_digit a ≡ true → is_digit b ≡ true → is_digit c ≡ true → 1 ≤ decimal_of (a ∷ b ∷ c ∷ []) → decimal_of (a ∷ b ∷ c ∷ []) ≤ 127 → in_number (a ∷ b ∷ c ∷ []) ≡ progress.Partial
+decimal-three : (a b c : ℕ) → is_digit a ≡ true → is_digit b ≡ true → is_digit c ≡ true → 1 ≤ number_in 10 (a ∷ b ∷ c ∷ []) → number_in 10 (a ∷ b ∷ c ∷ []) ≤ 127 → in_number (a ∷ b ∷ c ∷ []) ≡ progress.Partial
 decimal-three a b c e f g low high =
-    digits-number a (b ∷ c ∷ []) e ∙ cond-true (is_digit a && is_digit b) _ progress.Wrong (and_from (is_digit a) (is_digit b) e f) ∙ cond-true (is_digit c) _ (number_end c (10 * (a - 48) + (b - 48))) g
-    ∙ number-partial (10 * (10 * (a - 48) + (b - 48)) + (c - 48)) (omega arith) (omega arith)
+    digits-number a (b ∷ c ∷ []) e ∙ cond-true (is_digit a && is_digit b) _ progress.Wrong (and_from (is_digit a) (is_digit b) e f) ∙ cond-true (is_digit c) _ (number_end c (10 * digit_value a + digit_value b)) g
+    ∙ number-partial (10 * (10 * digit_value a + digit_value b) + digit_value c) (omega arith) (omega arith)
 
-whole-one : (a : ℕ) → is_digit a ≡ true → 1 ≤ decimal_of (a ∷ []) → decimal_of (a ∷ []) ≤ 127 → in_number (a ∷ 59 ∷ []) ≡ progress.Whole (decimal_of (a ∷ []))
-whole-one a e low high = digits-number a (59 ∷ []) e ∙ cond-true (is_digit a) _ progress.Wrong e ∙ number-whole (a - 48) (decimal_of (a ∷ [])) (omega arith) low high
+whole-one : (a : ℕ) → is_digit a ≡ true → 1 ≤ number_in 10 (a ∷ []) → number_in 10 (a ∷ []) ≤ 127 → in_number (a ∷ 59 ∷ []) ≡ progress.Whole (number_in 10 (a ∷ []))
+whole-one a e low high = digits-number a (59 ∷ []) e ∙ cond-true (is_digit a) _ progress.Wrong e ∙ number-whole (digit_value a) (number_in 10 (a ∷ [])) (omega arith) low high
 
-whole-two : (a b : ℕ) → is_digit a ≡ true → is_digit b ≡ true → 1 ≤ decimal_of (a ∷ b ∷ []) → decimal_of (a ∷ b ∷ []) ≤ 127 → in_number (a ∷ b ∷ 59 ∷ []) ≡ progress.Whole (decimal_of (a ∷ b ∷ []))
+whole-two : (a b : ℕ) → is_digit a ≡ true → is_digit b ≡ true → 1 ≤ number_in 10 (a ∷ b ∷ []) → number_in 10 (a ∷ b ∷ []) ≤ 127 → in_number (a ∷ b ∷ 59 ∷ []) ≡ progress.Whole (number_in 10 (a ∷ b ∷ []))
 whole-two a b e f low high =
     digits-number a (b ∷ 59 ∷ []) e ∙ cond-true (is_digit a && is_digit b) _ progress.Wrong (and_from (is_digit a) (is_digit b) e f)
-    ∙ number-whole (10 * (a - 48) + (b - 48)) (decimal_of (a ∷ b ∷ [])) (omega arith) low high
+    ∙ number-whole (10 * digit_value a + digit_value b) (number_in 10 (a ∷ b ∷ [])) (omega arith) low high
 
-whole-three : (a b c : ℕ) → is_digit a ≡ true → is_digit b ≡ true → is_digit c ≡ true → 1 ≤ decimal_of (a ∷ b ∷ c ∷ []) → decimal_of (a ∷ b ∷ c ∷ []) ≤ 127 → in_number (a ∷ b ∷ c ∷ 59 ∷ []) ≡ progress.Whole (decimal_of (a ∷ b ∷ c ∷ []))
+whole-three : (a b c : ℕ) → is_digit a ≡ true → is_digit b ≡ true → is_digit c ≡ true → 1 ≤ number_in 10 (a ∷ b ∷ c ∷ []) → number_in 10 (a ∷ b ∷ c ∷ []) ≤ 127 → in_number (a ∷ b ∷ c ∷ 59 ∷ []) ≡ progress.Whole (number_in 10 (a ∷ b ∷ c ∷ []))
 whole-three a b c e f g low high =
     digits-number a (b ∷ c ∷ 59 ∷ []) e ∙ cond-true (is_digit a && (is_digit b && is_digit c)) _ progress.Wrong (and_from (is_digit a) _ e (and_from (is_digit b) (is_digit c) f g))
-    ∙ number-whole (10 * (10 * (a - 48) + (b - 48)) + (c - 48)) (decimal_of (a ∷ b ∷ c ∷ [])) (omega arith) low high
+    ∙ number-whole (10 * (10 * digit_value a + digit_value b) + digit_value c) (number_in 10 (a ∷ b ∷ c ∷ [])) (omega arith) low high
 
 -- ---- hexadecimal digits, after `&#x`
 
-hexadecimal-isnt : is_hexadecimal 59 ≡ false
+hexadecimal-isnt : is_digit_in 16 59 ≡ false
 hexadecimal-isnt = refl
 
-hexadecimal-whole-one : (a : ℕ) → is_hexadecimal a ≡ true → 1 ≤ hexadecimal_of (a ∷ []) → hexadecimal_of (a ∷ []) ≤ 127 → in_hexadecimal (a ∷ 59 ∷ []) ≡ progress.Whole (hexadecimal_of (a ∷ []))
+hexadecimal-whole-one : (a : ℕ) → is_digit_in 16 a ≡ true → 1 ≤ number_in 16 (a ∷ []) → number_in 16 (a ∷ []) ≤ 127 → in_hexadecimal (a ∷ 59 ∷ []) ≡ progress.Whole (number_in 16 (a ∷ []))
 hexadecimal-whole-one a e low high =
-    cond-false (is_hexadecimal a && is_hexadecimal 59) _ _ (ap (λ x. x && is_hexadecimal 59) e)
-    ∙ cond-true (is_hexadecimal a) _ _ e ∙ number-whole (hexadecimal_digit a) (hexadecimal_of (a ∷ [])) (omega arith) low high
+    cond-false (is_digit_in 16 a && is_digit_in 16 59) _ _ (ap (λ x. x && is_digit_in 16 59) e)
+    ∙ cond-true (is_digit_in 16 a) _ _ e ∙ number-whole (digit_value a) (number_in 16 (a ∷ [])) (omega arith) low high
 
-hexadecimal-whole-two : (a b : ℕ) → is_hexadecimal a ≡ true → is_hexadecimal b ≡ true → 1 ≤ hexadecimal_of (a ∷ b ∷ []) → hexadecimal_of (a ∷ b ∷ []) ≤ 127 → in_hexadecimal (a ∷ b ∷ 59 ∷ []) ≡ progress.Whole (hexadecimal_of (a ∷ b ∷ []))
+hexadecimal-whole-two : (a b : ℕ) → is_digit_in 16 a ≡ true → is_digit_in 16 b ≡ true → 1 ≤ number_in 16 (a ∷ b ∷ []) → number_in 16 (a ∷ b ∷ []) ≤ 127 → in_hexadecimal (a ∷ b ∷ 59 ∷ []) ≡ progress.Whole (number_in 16 (a ∷ b ∷ []))
 hexadecimal-whole-two a b e f low high =
-    cond-true (is_hexadecimal a && is_hexadecimal b) _ _ (and_from (is_hexadecimal a) (is_hexadecimal b) e f)
-    ∙ number-whole (16 * hexadecimal_digit a + hexadecimal_digit b) (hexadecimal_of (a ∷ b ∷ [])) (omega arith) low high
+    cond-true (is_digit_in 16 a && is_digit_in 16 b) _ _ (and_from (is_digit_in 16 a) (is_digit_in 16 b) e f)
+    ∙ number-whole (16 * digit_value a + digit_value b) (number_in 16 (a ∷ b ∷ [])) (omega arith) low high
 
-hexadecimal-two : (a b : ℕ) → is_hexadecimal a ≡ true → is_hexadecimal b ≡ true → 1 ≤ hexadecimal_of (a ∷ b ∷ []) → hexadecimal_of (a ∷ b ∷ []) ≤ 127 → in_hexadecimal (a ∷ b ∷ []) ≡ progress.Partial
+hexadecimal-two : (a b : ℕ) → is_digit_in 16 a ≡ true → is_digit_in 16 b ≡ true → 1 ≤ number_in 16 (a ∷ b ∷ []) → number_in 16 (a ∷ b ∷ []) ≤ 127 → in_hexadecimal (a ∷ b ∷ []) ≡ progress.Partial
 hexadecimal-two a b e f low high =
-    cond-true (is_hexadecimal a && is_hexadecimal b) _ _ (and_from (is_hexadecimal a) (is_hexadecimal b) e f)
-    ∙ number-partial (16 * hexadecimal_digit a + hexadecimal_digit b) (omega arith) (omega arith)
+    cond-true (is_digit_in 16 a && is_digit_in 16 b) _ _ (and_from (is_digit_in 16 a) (is_digit_in 16 b) e f)
+    ∙ number-partial (16 * digit_value a + digit_value b) (omega arith) (omega arith)
 
 record Two (p : ℕ → Bool) (a b : ℕ) : Type 0 where
   first : p a ≡ true
@@ -88,17 +90,17 @@ two-of p a b more e = let parts = and_parts (p a) _ e in record { first = parts.
 third-of : (p : ℕ → Bool) (a b c : ℕ) (more : List ℕ) → list_all p (a ∷ b ∷ c ∷ more) ≡ true → p c ≡ true
 third-of p a b c more e = (and_parts (p c) _ (and_parts (p b) _ (and_parts (p a) _ e).1).1).0
 
-decimal-whole : (digits : List ℕ) → list_all is_digit digits ≡ true → 1 ≤ length digits → length digits ≤ 3 → 1 ≤ decimal_of digits → decimal_of digits ≤ 127 → in_number (digits ++ 59 ∷ []) ≡ progress.Whole (decimal_of digits)
+decimal-whole : (digits : List ℕ) → list_all is_digit digits ≡ true → 1 ≤ length digits → length digits ≤ 3 → 1 ≤ number_in 10 digits → number_in 10 digits ≤ 127 → in_number (digits ++ 59 ∷ []) ≡ progress.Whole (number_in 10 digits)
 decimal-whole [] all some few low high = absurd (omega arith)
 decimal-whole (a ∷ []) all some few low high = whole-one a (and_parts (is_digit a) true all).0 low high
 decimal-whole (a ∷ b ∷ []) all some few low high = let t = two-of is_digit a b [] all in whole-two a b t.first t.second low high
 decimal-whole (a ∷ b ∷ c ∷ []) all some few low high = let t = two-of is_digit a b (c ∷ []) all in whole-three a b c t.first t.second (third-of is_digit a b c [] all) low high
 decimal-whole (a ∷ b ∷ c ∷ d ∷ more) all some few low high = absurd (omega arith)
 
-hexadecimal-whole : (digits : List ℕ) → list_all is_hexadecimal digits ≡ true → 1 ≤ length digits → length digits ≤ 2 → 1 ≤ hexadecimal_of digits → hexadecimal_of digits ≤ 127 → in_hexadecimal (digits ++ 59 ∷ []) ≡ progress.Whole (hexadecimal_of digits)
+hexadecimal-whole : (digits : List ℕ) → list_all (is_digit_in 16) digits ≡ true → 1 ≤ length digits → length digits ≤ 2 → 1 ≤ number_in 16 digits → number_in 16 digits ≤ 127 → in_hexadecimal (digits ++ 59 ∷ []) ≡ progress.Whole (number_in 16 digits)
 hexadecimal-whole [] all some few low high = absurd (omega arith)
-hexadecimal-whole (a ∷ []) all some few low high = hexadecimal-whole-one a (and_parts (is_hexadecimal a) true all).0 low high
-hexadecimal-whole (a ∷ b ∷ []) all some few low high = let t = two-of is_hexadecimal a b [] all in hexadecimal-whole-two a b t.first t.second low high
+hexadecimal-whole (a ∷ []) all some few low high = hexadecimal-whole-one a (and_parts (is_digit_in 16 a) true all).0 low high
+hexadecimal-whole (a ∷ b ∷ []) all some few low high = let t = two-of (is_digit_in 16) a b [] all in hexadecimal-whole-two a b t.first t.second low high
 hexadecimal-whole (a ∷ b ∷ c ∷ more) all some few low high = absurd (omega arith)
 
 pub reference-whole : (text : List ℕ) (value : ℕ) → IsReference text value → progress_of text ≡ progress.Whole value
@@ -151,7 +153,7 @@ apostrophe-partial (suc (suc (suc (suc zero)))) low lt = refl
 apostrophe-partial (suc (suc (suc (suc (suc zero))))) low lt = refl
 apostrophe-partial (suc (suc (suc (suc (suc (suc k)))))) low lt = absurd (omega arith)
 
-decimal-partial : (k : ℕ) (digits : List ℕ) → list_all is_digit digits ≡ true → 1 ≤ length digits → length digits ≤ 3 → 1 ≤ decimal_of digits → decimal_of digits ≤ 127 → 1 ≤ k → k < length (38 ∷ 35 ∷ (digits ++ 59 ∷ [])) → progress_of (take k (38 ∷ 35 ∷ (digits ++ 59 ∷ []))) ≡ progress.Partial
+decimal-partial : (k : ℕ) (digits : List ℕ) → list_all is_digit digits ≡ true → 1 ≤ length digits → length digits ≤ 3 → 1 ≤ number_in 10 digits → number_in 10 digits ≤ 127 → 1 ≤ k → k < length (38 ∷ 35 ∷ (digits ++ 59 ∷ [])) → progress_of (take k (38 ∷ 35 ∷ (digits ++ 59 ∷ []))) ≡ progress.Partial
 decimal-partial zero digits all some few small great low lt = absurd (omega arith)
 decimal-partial (suc zero) digits all some few small great low lt = refl
 decimal-partial (suc (suc zero)) digits all some few small great low lt = refl
@@ -165,15 +167,15 @@ decimal-partial (suc (suc (suc (suc (suc zero))))) (a ∷ b ∷ c ∷ []) all so
 decimal-partial (suc (suc (suc (suc (suc (suc k)))))) (a ∷ b ∷ c ∷ []) all some few small great low lt = absurd (omega arith)
 decimal-partial (suc (suc (suc (suc (suc k))))) (a ∷ b ∷ c ∷ d ∷ more) all some few small great low lt = absurd (omega arith)
 
-hexadecimal-partial : (k : ℕ) (digits : List ℕ) → list_all is_hexadecimal digits ≡ true → 1 ≤ length digits → length digits ≤ 2 → 1 ≤ hexadecimal_of digits → hexadecimal_of digits ≤ 127 → 1 ≤ k → k < length (38 ∷ 35 ∷ 120 ∷ (digits ++ 59 ∷ [])) → progress_of (take k (38 ∷ 35 ∷ 120 ∷ (digits ++ 59 ∷ []))) ≡ progress.Partial
+hexadecimal-partial : (k : ℕ) (digits : List ℕ) → list_all (is_digit_in 16) digits ≡ true → 1 ≤ length digits → length digits ≤ 2 → 1 ≤ number_in 16 digits → number_in 16 digits ≤ 127 → 1 ≤ k → k < length (38 ∷ 35 ∷ 120 ∷ (digits ++ 59 ∷ [])) → progress_of (take k (38 ∷ 35 ∷ 120 ∷ (digits ++ 59 ∷ []))) ≡ progress.Partial
 hexadecimal-partial zero digits all some few small great low lt = absurd (omega arith)
 hexadecimal-partial (suc zero) digits all some few small great low lt = refl
 hexadecimal-partial (suc (suc zero)) digits all some few small great low lt = refl
 hexadecimal-partial (suc (suc (suc zero))) digits all some few small great low lt = refl
 hexadecimal-partial (suc (suc (suc (suc k)))) [] all some few small great low lt = absurd (omega arith)
-hexadecimal-partial (suc (suc (suc (suc zero)))) (a ∷ more) all some few small great low lt = cond-true (is_hexadecimal a) _ _ (and_parts (is_hexadecimal a) _ all).0
+hexadecimal-partial (suc (suc (suc (suc zero)))) (a ∷ more) all some few small great low lt = cond-true (is_digit_in 16 a) _ _ (and_parts (is_digit_in 16 a) _ all).0
 hexadecimal-partial (suc (suc (suc (suc (suc k))))) (a ∷ []) all some few small great low lt = absurd (omega arith)
-hexadecimal-partial (suc (suc (suc (suc (suc zero))))) (a ∷ b ∷ []) all some few small great low lt = let t = two-of is_hexadecimal a b [] all in hexadecimal-two a b t.first t.second small great
+hexadecimal-partial (suc (suc (suc (suc (suc zero))))) (a ∷ b ∷ []) all some few small great low lt = let t = two-of (is_digit_in 16) a b [] all in hexadecimal-two a b t.first t.second small great
 hexadecimal-partial (suc (suc (suc (suc (suc (suc k)))))) (a ∷ b ∷ []) all some few small great low lt = absurd (omega arith)
 hexadecimal-partial (suc (suc (suc (suc (suc k))))) (a ∷ b ∷ c ∷ more) all some few small great low lt = absurd (omega arith)
 

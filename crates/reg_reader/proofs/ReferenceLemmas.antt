@@ -1,12 +1,14 @@
 -- What a whole reference is.
 use Rattle.std.proofs.Common.{◌≡◌, ℕ, ◌+◌, ◌-◌, ◌*◌, ◌≤◌, Bool, true, ◌&&◌, List, [], ◌∷◌, ◌++◌, length, refl, sym, subst, ◌∙◌, arith}
 use Rattle.std.specs.Prelude.{codes, nat_le, ◌==◌}
+use Rattle.std.specs.Char.{digit_value}
 use Rattle.std.specs.List.{list_all}
 use Rattle.std.specs.Str.{bytes_eq}
 use Rattle.std.proofs.lemmas.Bool.{cond_both, eqb-true, leb-true, and_parts, and_from}
 use Rattle.std.proofs.lemmas.Slice.Eq.{bytes_eq-Decides}
 use Rattle.vkb_bytes.specs.Bytes.{is_digit}
-use Rattle.reg_reader.specs.Markup.{IsReference, is_hexadecimal, hexadecimal_digit, hexadecimal_of, decimal_of}
+use Rattle.vkb_bytes.specs.Numbers.{is_digit_in, number_in}
+use Rattle.reg_reader.specs.Markup.{IsReference}
 use Rattle.reg_reader.specs.References.{number_end, partial_if, in_hexadecimal, in_decimal, in_number, in_named, begins_named, progress_of}
 use Rattle.reg_reader.specs.declared.reference.Progress.{Progress}
 use Rattle.reg_reader.specs.declared.reference.Progress.TheVariants as progress
@@ -52,13 +54,13 @@ number-ends byte number value =
     record { byte_is = eqb-true byte 59 parts.0; low = leb-true 1 number bounds.0; high = leb-true number 127 bounds.1; is = whole-same number value w })
     (λ _. wrong_isnt value)
 
-hexadecimal-is : (digits : List ℕ) (byte number value : ℕ) → list_all is_hexadecimal digits ≡ true → 1 ≤ length digits → length digits ≤ 2 → hexadecimal_of digits ≡ number → Ends byte number value → IsReference (38 ∷ 35 ∷ 120 ∷ (digits ++ byte ∷ [])) value
+hexadecimal-is : (digits : List ℕ) (byte number value : ℕ) → list_all (is_digit_in 16) digits ≡ true → 1 ≤ length digits → length digits ≤ 2 → number_in 16 digits ≡ number → Ends byte number value → IsReference (38 ∷ 35 ∷ 120 ∷ (digits ++ byte ∷ [])) value
 hexadecimal-is digits byte number value all some few is ends =
     subst (λ x. IsReference (38 ∷ 35 ∷ 120 ∷ (digits ++ x ∷ [])) value) (sym ends.byte_is)
     (subst (IsReference (38 ∷ 35 ∷ 120 ∷ (digits ++ 59 ∷ []))) (is ∙ ends.is)
     (IsReference.hexadecimal digits all some few (subst (λ x. 1 ≤ x) (sym is) ends.low) (subst (λ x. x ≤ 127) (sym is) ends.high)))
 
-decimal-is : (digits : List ℕ) (byte number value : ℕ) → list_all is_digit digits ≡ true → 1 ≤ length digits → length digits ≤ 3 → decimal_of digits ≡ number → Ends byte number value → IsReference (38 ∷ 35 ∷ (digits ++ byte ∷ [])) value
+decimal-is : (digits : List ℕ) (byte number value : ℕ) → list_all is_digit digits ≡ true → 1 ≤ length digits → length digits ≤ 3 → number_in 10 digits ≡ number → Ends byte number value → IsReference (38 ∷ 35 ∷ (digits ++ byte ∷ [])) value
 decimal-is digits byte number value all some few is ends =
     subst (λ x. IsReference (38 ∷ 35 ∷ (digits ++ x ∷ [])) value) (sym ends.byte_is)
     (subst (IsReference (38 ∷ 35 ∷ (digits ++ 59 ∷ []))) (is ∙ ends.is)
@@ -75,17 +77,17 @@ three p a b c h k l = and_from (p a) (list_all p (b ∷ c ∷ [])) h (two p b c 
 
 in-hexadecimal : (more : List ℕ) (value : ℕ) → in_hexadecimal more ≡ progress.Whole value → IsReference (38 ∷ 35 ∷ 120 ∷ more) value
 in-hexadecimal [] value = partial_isnt value
-in-hexadecimal (a ∷ []) value = if-partial (is_hexadecimal a) value
+in-hexadecimal (a ∷ []) value = if-partial (is_digit_in 16 a) value
 in-hexadecimal (a ∷ b ∷ []) value =
     let P : Progress → Type 0 = λ p. p ≡ progress.Whole value → IsReference (38 ∷ 35 ∷ 120 ∷ a ∷ b ∷ []) value in
-    cond_both (is_hexadecimal a && is_hexadecimal b) _ _ P (λ _. if-partial _ value)
-    (λ _. cond_both (is_hexadecimal a) _ _ P
-    (λ e w. hexadecimal-is (a ∷ []) b (hexadecimal_digit a) value (one is_hexadecimal a e) (omega arith) (omega arith) (omega arith) (number-ends b (hexadecimal_digit a) value w))
+    cond_both (is_digit_in 16 a && is_digit_in 16 b) _ _ P (λ _. if-partial _ value)
+    (λ _. cond_both (is_digit_in 16 a) _ _ P
+    (λ e w. hexadecimal-is (a ∷ []) b (digit_value a) value (one (is_digit_in 16) a e) (omega arith) (omega arith) (omega arith) (number-ends b (digit_value a) value w))
     (λ _. wrong_isnt value))
 in-hexadecimal (a ∷ b ∷ c ∷ []) value =
-    cond_both (is_hexadecimal a && is_hexadecimal b) _ _ (λ p. p ≡ progress.Whole value → IsReference (38 ∷ 35 ∷ 120 ∷ a ∷ b ∷ c ∷ []) value)
-    (λ e w. let parts = and_parts (is_hexadecimal a) (is_hexadecimal b) e in
-    hexadecimal-is (a ∷ b ∷ []) c (16 * hexadecimal_digit a + hexadecimal_digit b) value (two is_hexadecimal a b parts.0 parts.1) (omega arith) (omega arith) (omega arith) (number-ends c _ value w))
+    cond_both (is_digit_in 16 a && is_digit_in 16 b) _ _ (λ p. p ≡ progress.Whole value → IsReference (38 ∷ 35 ∷ 120 ∷ a ∷ b ∷ c ∷ []) value)
+    (λ e w. let parts = and_parts (is_digit_in 16 a) (is_digit_in 16 b) e in
+    hexadecimal-is (a ∷ b ∷ []) c (16 * digit_value a + digit_value b) value (two (is_digit_in 16) a b parts.0 parts.1) (omega arith) (omega arith) (omega arith) (number-ends c _ value w))
     (λ _. wrong_isnt value)
 in-hexadecimal (a ∷ b ∷ c ∷ d ∷ more) value = wrong_isnt value
 
@@ -96,19 +98,19 @@ in-decimal (a ∷ b ∷ []) value =
     let P : Progress → Type 0 = λ p. p ≡ progress.Whole value → IsReference (38 ∷ 35 ∷ a ∷ b ∷ []) value in
     cond_both (is_digit a) _ _ P
     (λ e. cond_both (is_digit b) _ _ P (λ _. partial_isnt value)
-    (λ _ w. decimal-is (a ∷ []) b (a - 48) value (one is_digit a e) (omega arith) (omega arith) (omega arith) (number-ends b (a - 48) value w)))
+    (λ _ w. decimal-is (a ∷ []) b (digit_value a) value (one is_digit a e) (omega arith) (omega arith) (omega arith) (number-ends b (digit_value a) value w)))
     (λ _. wrong_isnt value)
 in-decimal (a ∷ b ∷ c ∷ []) value =
     let P : Progress → Type 0 = λ p. p ≡ progress.Whole value → IsReference (38 ∷ 35 ∷ a ∷ b ∷ c ∷ []) value in
     cond_both (is_digit a && is_digit b) _ _ P
     (λ e. let parts = and_parts (is_digit a) (is_digit b) e in
     cond_both (is_digit c) _ _ P (λ _. if-partial _ value)
-    (λ _ w. decimal-is (a ∷ b ∷ []) c (10 * (a - 48) + (b - 48)) value (two is_digit a b parts.0 parts.1) (omega arith) (omega arith) (omega arith) (number-ends c _ value w)))
+    (λ _ w. decimal-is (a ∷ b ∷ []) c (10 * digit_value a + digit_value b) value (two is_digit a b parts.0 parts.1) (omega arith) (omega arith) (omega arith) (number-ends c _ value w)))
     (λ _. wrong_isnt value)
 in-decimal (a ∷ b ∷ c ∷ d ∷ []) value =
     cond_both (is_digit a && (is_digit b && is_digit c)) _ _ (λ p. p ≡ progress.Whole value → IsReference (38 ∷ 35 ∷ a ∷ b ∷ c ∷ d ∷ []) value)
     (λ e w. let parts = and_parts (is_digit a) _ e in let more = and_parts (is_digit b) (is_digit c) parts.1 in
-    decimal-is (a ∷ b ∷ c ∷ []) d (10 * (10 * (a - 48) + (b - 48)) + (c - 48)) value (three is_digit a b c parts.0 more.0 more.1) (omega arith) (omega arith) (omega arith) (number-ends d _ value w))
+    decimal-is (a ∷ b ∷ c ∷ []) d (10 * (10 * digit_value a + digit_value b) + digit_value c) value (three is_digit a b c parts.0 more.0 more.1) (omega arith) (omega arith) (omega arith) (number-ends d _ value w))
     (λ _. wrong_isnt value)
 in-decimal (a ∷ b ∷ c ∷ d ∷ e ∷ more) value = wrong_isnt value
 

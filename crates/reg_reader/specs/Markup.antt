@@ -4,6 +4,7 @@ use Rattle.std.specs.Prelude.{◌≡◌, ℕ, ◌+◌, ◌*◌, ◌-◌, ◌<◌
 use Rattle.std.specs.List.{list_all, list_any}
 use Rattle.std.specs.Str.{bytes_eq}
 use Rattle.vkb_bytes.specs.Bytes.{is_letter, is_digit, is_white, is_word_byte}
+use Rattle.vkb_bytes.specs.Numbers.{is_digit_in, number_in}
 use Rattle.reg_reader.specs.declared.markup.Part.{Part}
 use Rattle.reg_reader.specs.declared.markup.Node.{Node}
 use Rattle.reg_reader.specs.declared.markup.Node.TheOpen.{Node-F}
@@ -76,19 +77,6 @@ pub data IsBlank (b : List ℕ) : ℕ → ℕ → Type 0 where
   white : {i j : ℕ} → IsBlank b i j → is_white (slice_index b j) ≡ true → IsBlank b i (j + 1)
   comment : {i j k : ℕ} → IsBlank b i j → IsComment b j k → IsBlank b i k
 
--- the number that decimal digits spell, and that hexadecimal digits of either case do
-abbrev pub decimal_of : List ℕ → ℕ
-decimal_of digits = fold (λ n digit. 10 * n + (digit - 48)) 0 digits
-
-abbrev pub is_hexadecimal : ℕ → Bool
-is_hexadecimal byte = is_digit byte || (nat_le 65 byte && nat_le byte 70) || (nat_le 97 byte && nat_le byte 102)
-
-abbrev pub hexadecimal_digit : ℕ → ℕ
-hexadecimal_digit byte = if is_digit byte then byte - 48 else (if nat_le byte 70 then byte - 55 else byte - 87)
-
-abbrev pub hexadecimal_of : List ℕ → ℕ
-hexadecimal_of digits = fold (λ n digit. 16 * n + hexadecimal_digit digit) 0 digits
-
 -- a reference, and the byte that it stands for
 pub data IsReference : List ℕ → ℕ → Type 0 where
   less : IsReference (codes "&lt;") 60
@@ -96,8 +84,8 @@ pub data IsReference : List ℕ → ℕ → Type 0 where
   ampersand : IsReference (codes "&amp;") 38
   quote : IsReference (codes "&quot;") 34
   apostrophe : IsReference (codes "&apos;") 39
-  decimal : (digits : List ℕ) → list_all is_digit digits ≡ true → 1 ≤ length digits → length digits ≤ 3 → 1 ≤ decimal_of digits → decimal_of digits ≤ 127 → IsReference (38 ∷ 35 ∷ (digits ++ 59 ∷ [])) (decimal_of digits)
-  hexadecimal : (digits : List ℕ) → list_all is_hexadecimal digits ≡ true → 1 ≤ length digits → length digits ≤ 2 → 1 ≤ hexadecimal_of digits → hexadecimal_of digits ≤ 127 → IsReference (38 ∷ 35 ∷ 120 ∷ (digits ++ 59 ∷ [])) (hexadecimal_of digits)
+  decimal : (digits : List ℕ) → list_all is_digit digits ≡ true → 1 ≤ length digits → length digits ≤ 3 → 1 ≤ number_in 10 digits → number_in 10 digits ≤ 127 → IsReference (38 ∷ 35 ∷ (digits ++ 59 ∷ [])) (number_in 10 digits)
+  hexadecimal : (digits : List ℕ) → list_all (is_digit_in 16) digits ≡ true → 1 ≤ length digits → length digits ≤ 2 → 1 ≤ number_in 16 digits → number_in 16 digits ≤ 127 → IsReference (38 ∷ 35 ∷ 120 ∷ (digits ++ 59 ∷ [])) (number_in 16 digits)
 
 -- Characters, and the bytes that they stand for: bytes other than `<`, than one that stops them and than `&`, and
 -- references.

@@ -1,8 +1,9 @@
 -- How far a reference was read. No public contract names it.
 use Rattle.std.specs.Prelude.{ℕ, ◌+◌, ◌-◌, ◌*◌, Bool, ◌||◌, ◌&&◌, ◌==◌, nat_le, List, [], ◌∷◌, length, codes, take, if◌then◌else◌}
+use Rattle.std.specs.Char.{digit_value}
 use Rattle.std.specs.Str.{bytes_eq}
-use Rattle.vkb_bytes.specs.Bytes.{is_digit}
-use Rattle.reg_reader.specs.Markup.{is_hexadecimal, hexadecimal_digit}
+use Rattle.vkb_bytes.specs.Bytes.{begins, is_digit}
+use Rattle.vkb_bytes.specs.Numbers.{is_digit_in}
 use Rattle.reg_reader.specs.declared.reference.Progress.{Progress}
 use Rattle.reg_reader.specs.declared.reference.Progress.TheVariants as progress
 
@@ -16,34 +17,31 @@ partial_if good = if good then progress.Partial else progress.Wrong
 -- after `&#x`
 abbrev pub in_hexadecimal : List ℕ → Progress
 in_hexadecimal [] = progress.Partial
-in_hexadecimal (a ∷ []) = partial_if (is_hexadecimal a)
-in_hexadecimal (a ∷ b ∷ []) = if is_hexadecimal a && is_hexadecimal b then partial_if (let n = 16 * hexadecimal_digit a + hexadecimal_digit b in nat_le 1 n && nat_le n 127) else (if is_hexadecimal a then number_end b (hexadecimal_digit a) else progress.Wrong)
-in_hexadecimal (a ∷ b ∷ c ∷ []) = if is_hexadecimal a && is_hexadecimal b then number_end c (16 * hexadecimal_digit a + hexadecimal_digit b) else progress.Wrong
+in_hexadecimal (a ∷ []) = partial_if (is_digit_in 16 a)
+in_hexadecimal (a ∷ b ∷ []) = if is_digit_in 16 a && is_digit_in 16 b then partial_if (let n = 16 * digit_value a + digit_value b in nat_le 1 n && nat_le n 127) else (if is_digit_in 16 a then number_end b (digit_value a) else progress.Wrong)
+in_hexadecimal (a ∷ b ∷ c ∷ []) = if is_digit_in 16 a && is_digit_in 16 b then number_end c (16 * digit_value a + digit_value b) else progress.Wrong
 in_hexadecimal (a ∷ b ∷ c ∷ d ∷ more) = progress.Wrong
 
 -- after `&#`, with a digit
 abbrev pub in_decimal : List ℕ → Progress
 in_decimal [] = progress.Partial
 in_decimal (a ∷ []) = partial_if (is_digit a)
-in_decimal (a ∷ b ∷ []) = if is_digit a then (if is_digit b then progress.Partial else number_end b (a - 48)) else progress.Wrong
+in_decimal (a ∷ b ∷ []) = if is_digit a then (if is_digit b then progress.Partial else number_end b (digit_value a)) else progress.Wrong
 in_decimal (a ∷ b ∷ c ∷ []) =
     if is_digit a && is_digit b
-    then (if is_digit c then partial_if (let n = 10 * (10 * (a - 48) + (b - 48)) + (c - 48) in nat_le 1 n && nat_le n 127) else number_end c (10 * (a - 48) + (b - 48)))
+    then (if is_digit c then partial_if (let n = 10 * (10 * digit_value a + digit_value b) + digit_value c in nat_le 1 n && nat_le n 127) else number_end c (10 * digit_value a + digit_value b))
     else progress.Wrong
 in_decimal (a ∷ b ∷ c ∷ d ∷ []) =
-    if is_digit a && (is_digit b && is_digit c) then number_end d (10 * (10 * (a - 48) + (b - 48)) + (c - 48)) else progress.Wrong
+    if is_digit a && (is_digit b && is_digit c) then number_end d (10 * (10 * digit_value a + digit_value b) + digit_value c) else progress.Wrong
 in_decimal (a ∷ b ∷ c ∷ d ∷ e ∷ more) = progress.Wrong
 
 abbrev pub in_number : List ℕ → Progress
 in_number [] = progress.Partial
 in_number (a ∷ more) = if a == 120 then in_hexadecimal more else in_decimal (a ∷ more)
 
--- the text begins a name
-abbrev pub begins : List ℕ → List ℕ → Bool
-begins text name = bytes_eq text (take (length text) name)
-
+-- the text begins one of the names
 abbrev pub begins_named : List ℕ → Bool
-begins_named text = begins text (codes "&lt;") || begins text (codes "&gt;") || begins text (codes "&amp;") || begins text (codes "&quot;") || begins text (codes "&apos;")
+begins_named text = begins (codes "&lt;") text || begins (codes "&gt;") text || begins (codes "&amp;") text || begins (codes "&quot;") text || begins (codes "&apos;") text
 
 abbrev pub in_named : List ℕ → Progress
 in_named text =

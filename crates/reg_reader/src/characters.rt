@@ -3,9 +3,10 @@ ghost use Rattle.reg_reader.specs.Markup.{HasCharacters, AreCharactersOf};
 ghost use Rattle.reg_reader.specs.Characters.{with_byte};
 ghost use Rattle.reg_reader.specs.Within.{Within};
 
-use crate::markup::{Memory, Part};
+use crate::markup::Part;
 use crate::reference::{Progress, progress_of};
 use std::alloc::Global;
+use vkb_bytes::Memory;
 
 /// Puts what the byte at a place stands for behind a text, and says where the reference begins that is then open.
 fn put_byte(

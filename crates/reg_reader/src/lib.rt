@@ -17,7 +17,8 @@ mod reader;
 mod reading;
 mod reference;
 
-pub use markup::{MarkupFault, Memory, Node, Part};
+pub use markup::{MarkupFault, Node, Part};
+pub use vkb_bytes::Memory;
 
 /// Reads the tree that the bytes spell, in one pass and in memory in proportion to their number. Places are counted in
 /// bytes from 0. Elements nest at most 32 deep, the root being the first level.

@@ -1,5 +1,4 @@
 use sqlite_items::Items;
-use std::alloc::{AllocError, AllocFailed};
 use thiserror::Error;
 
 /// A part of the bytes that were read: those from one place up to another, which isn't part of it.
@@ -22,22 +21,6 @@ pub enum Node {
     },
     /// Characters between two pieces of markup, as they are spelled.
     Chars(Part),
-}
-
-/// Want of memory.
-#[derive(Clone, Copy, Debug)]
-pub struct Memory;
-
-impl From<AllocError> for Memory {
-    fn from(_error: AllocError) -> Memory {
-        Memory
-    }
-}
-
-impl<T: Drop> From<AllocFailed<T>> for Memory {
-    fn from(_error: AllocFailed<T>) -> Memory {
-        Memory
-    }
 }
 
 /// Why bytes weren't read as markup.

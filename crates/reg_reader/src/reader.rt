@@ -10,10 +10,11 @@ use crate::decide::{
     after_value, in_attribute, in_comment, in_declaration, in_end_name, in_end_white, in_equals,
     in_markup, in_name, in_outside, in_quote, in_slash, in_tag, in_text, in_value,
 };
-use crate::markup::{Memory, Node, Part};
+use crate::markup::{Node, Part};
 use crate::phase::{Act, Phase, Run};
 use sqlite_items::Items;
 use std::alloc::Global;
+use vkb_bytes::Memory;
 
 /// How deep elements nest at most.
 pub const MOST_NESTED: usize = 32;

@@ -1,9 +1,10 @@
 ghost use Rattle.std.specs.Prelude.{◌≡◌, ◌+◌, ◌*◌, ◌<◌, ◌≤◌, ◌-◌, ◌^◌, length, true};
+ghost use Rattle.std.specs.Char.{digit_value};
 ghost use Rattle.vkb_bytes.specs.Bytes.{is_digit};
-ghost use Rattle.reg_reader.specs.Markup.{is_hexadecimal, hexadecimal_digit};
-ghost use Rattle.reg_reader.specs.References.{number_end, partial_if, in_hexadecimal, in_decimal, in_number, begins, begins_named, in_named, progress_of};
+ghost use Rattle.vkb_bytes.specs.Numbers.{is_digit_in};
+ghost use Rattle.reg_reader.specs.References.{number_end, partial_if, in_hexadecimal, in_decimal, in_number, begins_named, in_named, progress_of};
 
-use vkb_bytes::is_digit;
+use vkb_bytes::{digit_value, is_digit, is_hexadecimal_digit};
 
 /// How far a reference was read.
 #[derive(Clone, Copy)]
@@ -26,24 +27,22 @@ fn partial_if(good: bool) -> Progress
     }
 }
 
-fn is_hexadecimal(byte: u8) -> bool
-    ensures { result ≡ is_hexadecimal byte }
-{
-    is_digit(byte) || matches!(byte, b'A'..=b'F') || matches!(byte, b'a'..=b'f')
-}
-
+/// What a hexadecimal digit is worth.
 fn hexadecimal_digit(byte: u8) -> u16
-    requires { is_hexadecimal byte ≡ true }
-    ensures value { result ≡ hexadecimal_digit byte }
+    requires { is_digit_in 16 byte ≡ true }
+    ensures value { result ≡ digit_value byte }
     ensures small { result < 16 }
 {
-    if is_digit(byte) {
-        u16::from(byte - b'0')
-    } else if byte <= b'F' {
-        u16::from(byte - b'A') + 10
-    } else {
-        u16::from(byte - b'a') + 10
-    }
+    u16::from(digit_value(byte))
+}
+
+/// What a decimal digit is worth.
+fn decimal_digit(byte: u8) -> u16
+    requires { is_digit byte ≡ true }
+    ensures value { result ≡ digit_value byte }
+    ensures small { result < 16 }
+{
+    u16::from(digit_value(byte))
 }
 
 fn number_end(byte: u8, value: u16) -> Progress
@@ -62,19 +61,19 @@ fn in_hexadecimal(text: &[u8]) -> Progress
 {
     match text {
         [] => Progress::Partial,
-        [a] => partial_if(is_hexadecimal(*a)),
+        [a] => partial_if(is_hexadecimal_digit(*a)),
         [a, b] => {
-            if !is_hexadecimal(*a) {
+            if !is_hexadecimal_digit(*a) {
                 return Progress::Wrong;
             }
-            if !is_hexadecimal(*b) {
+            if !is_hexadecimal_digit(*b) {
                 return number_end(*b, hexadecimal_digit(*a));
             }
             let value = 16 * hexadecimal_digit(*a) + hexadecimal_digit(*b);
             partial_if(value >= 1 && value <= 127)
         }
         [a, b, c] => {
-            if !is_hexadecimal(*a) || !is_hexadecimal(*b) {
+            if !is_hexadecimal_digit(*a) || !is_hexadecimal_digit(*b) {
                 return Progress::Wrong;
             }
             number_end(*c, 16 * hexadecimal_digit(*a) + hexadecimal_digit(*b))
@@ -97,35 +96,30 @@ fn in_decimal(text: &[u8]) -> Progress
             if is_digit(*b) {
                 return Progress::Partial;
             }
-            number_end(*b, digit(*a))
+            number_end(*b, decimal_digit(*a))
         }
         [a, b, c] => {
             if !is_digit(*a) || !is_digit(*b) {
                 return Progress::Wrong;
             }
-            let high = 10 * digit(*a) + digit(*b);
+            let high = 10 * decimal_digit(*a) + decimal_digit(*b);
             if !is_digit(*c) {
                 return number_end(*c, high);
             }
-            let value = 10 * high + digit(*c);
+            let value = 10 * high + decimal_digit(*c);
             partial_if(value >= 1 && value <= 127)
         }
         [a, b, c, d] => {
             if !is_digit(*a) || !is_digit(*b) || !is_digit(*c) {
                 return Progress::Wrong;
             }
-            number_end(*d, 10 * (10 * digit(*a) + digit(*b)) + digit(*c))
+            number_end(
+                *d,
+                10 * (10 * decimal_digit(*a) + decimal_digit(*b)) + decimal_digit(*c),
+            )
         }
         _ => Progress::Wrong,
     }
-}
-
-fn digit(byte: u8) -> u16
-    requires { is_digit byte ≡ true }
-    ensures value { result ≡ byte - 48 }
-    ensures small { result < 10 }
-{
-    u16::from(byte - b'0')
 }
 
 /// What stands behind `&#`.
@@ -136,16 +130,6 @@ fn in_number(text: &[u8]) -> Progress
         [] => Progress::Partial,
         [b'x', more @ ..] => in_hexadecimal(more),
         _ => in_decimal(text),
-    }
-}
-
-/// Whether a text begins a name.
-fn begins(text: &[u8], name: &[u8]) -> bool
-    ensures { result ≡ begins text.now name.now }
-{
-    match name.get(..text.len()) {
-        Some(front) => text == front,
-        None => false,
     }
 }
 
@@ -167,14 +151,15 @@ fn in_named(text: &[u8]) -> Progress
     }
 }
 
+/// Whether a text begins one of the names.
 fn begins_named(text: &[u8]) -> bool
     ensures { result ≡ begins_named text.now }
 {
-    begins(text, b"&lt;")
-        || begins(text, b"&gt;")
-        || begins(text, b"&amp;")
-        || begins(text, b"&quot;")
-        || begins(text, b"&apos;")
+    b"&lt;".starts_with(text)
+        || b"&gt;".starts_with(text)
+        || b"&amp;".starts_with(text)
+        || b"&quot;".starts_with(text)
+        || b"&apos;".starts_with(text)
 }
 
 /// How far the text of a reference goes.

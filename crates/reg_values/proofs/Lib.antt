@@ -1,3 +1,1 @@
-pub mod DigitLemmas
-pub mod NumberLemmas
 pub mod SpellingLemmas

@@ -10,6 +10,7 @@ mod numerals;
 
 use numerals::magnitude;
 use thiserror::Error;
+use vkb_bytes::numerals_follow_the_rule;
 
 #[cfg(test)]
 mod tests;
@@ -125,4 +126,6 @@ pub fn literal_value(text: &[u8]) -> Result<i128, ValueFault>
 pub fn literals_follow_the_rule(text: &[u8])
     ensures spelled { (value : ℤ) → (literal_of text.now ≡ Some value) ↔ IsLiteral text.now value }
     ensures unique { (value other : ℤ) → IsLiteral text.now value → IsLiteral text.now other → value ≡ other }
-{}
+{
+    numerals_follow_the_rule();
+}

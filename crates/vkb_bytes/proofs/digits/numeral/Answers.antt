@@ -1,10 +1,10 @@
 use Rattle.std.proofs.Common.{◌≡◌, ℕ, ◌-◌, ◌<◌, ◌^◌, length, get_or, map, take, arith, ◌∙◌, ap}
-use Rattle.std.specs.Char.{digit_value, is_digit}
+use Rattle.std.specs.Char.{digit_value}
 use Rattle.std.proofs.lemmas.Bool.{and_from, lt-ltb}
 use Rattle.std.proofs.lemmas.List.Folds.{list_all_more}
-use Rattle.reg_values.specs.Literal.{number_of}
-use Rattle.reg_values.proofs.NumberLemmas.{number_more, cut_more}
-use Rattle.reg_values.proofs.numerals.numeral.Goals as goal
+use Rattle.vkb_bytes.specs.Numbers.{number_of, is_digit_in}
+use Rattle.vkb_bytes.proofs.NumberLemmas.{number_more, cut_more}
+use Rattle.vkb_bytes.proofs.digits.numeral.Goals as goal
 
 pub loop-byte-preserved : goal.loop-byte-preserved
 loop-byte-preserved c =
@@ -19,7 +19,7 @@ loop-byte-preserved c =
     let before : ℕ = number_of base (map digit_value (take i text)) in
     record {
       all_digits =
-          list_all_more (λ b. is_digit b base) text i 0 here ∙ and_from _ _ c.loop-byte.invariant.all_digits (lt-ltb _ base small);
+          list_all_more (is_digit_in base) text i 0 here ∙ and_from _ _ c.loop-byte.invariant.all_digits (lt-ltb _ base small);
       counted =
           let more = number_more base digit_value text i here in
           let cut = cut_more before base (digit_value (get_or text i 0)) (2 ^ 128 - 1) (omega arith) in

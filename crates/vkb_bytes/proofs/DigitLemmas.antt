@@ -5,7 +5,7 @@ use Rattle.std.specs.List.{range_with_len}
 use Rattle.std.proofs.lemmas.Bool.Decides.{nat_tests}
 use Rattle.std.proofs.lemmas.List.FromFn.{length-map-range_with_len, get_or-map-range_with_len}
 use Rattle.std.proofs.lemmas.Option.{slice_get-get_or, slice_get_within}
-use Rattle.reg_values.specs.Spelling.{IsDecimalDigit, IsHexadecimalDigit}
+use Rattle.vkb_bytes.specs.Numbers.{IsDecimalDigit, IsHexadecimalDigit}
 
 -- the digits of base 16 in upper case
 abbrev upper_char : ℕ → ℕ

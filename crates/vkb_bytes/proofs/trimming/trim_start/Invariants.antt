@@ -1,0 +1,11 @@
+use Rattle.std.proofs.Common.{length, drop, ◌-◌, ◌+◌, ◌≡◌, ◌≤◌}
+use Rattle.std.specs.List.{prefix_len}
+use Rattle.vkb_bytes.specs.Bytes.{is_white}
+use Rattle.vkb_bytes.proofs.trimming.trim_start.Given as goal
+
+-- what was passed is white
+abbrev pub invariant-loop-start : goal.invariant-loop-start
+invariant-loop-start l = (l.start ≤ length l.text) × (l.start + prefix_len is_white (drop l.start l.text) ≡ prefix_len is_white l.text)
+
+abbrev pub decreases-loop-start : goal.decreases-loop-start
+decreases-loop-start l = length l.text - l.start
