@@ -4,7 +4,8 @@ use Rattle.std.specs.Prelude.{codes}
 use Rattle.std.proofs.lemmas.Bool.{false≢true, or_cases, or_parts, and_parts}
 use Rattle.doc_cond.specs.declared.LineKind.{LineKind}
 use Rattle.doc_cond.specs.declared.LineKind.TheVariants.{Plain, Comment, Other, Begin, OneLine, Close, Chapter, Api, Validity, Refpage}
-use Rattle.doc_cond.specs.Lines.{IsBegin, IsOneLine, IsClose, Spells, begins, begins_comment, begins_conditional, joined, opening}
+use Rattle.vkb_bytes.specs.Bytes.{begins}
+use Rattle.doc_cond.specs.Lines.{IsBegin, IsOneLine, IsClose, Spells, begins_comment, begins_conditional, joined, opening}
 use Rattle.doc_cond.proofs.Fronts.{begins_front}
 
 abbrev pub family : LineKind → ℕ

@@ -2,7 +2,7 @@
 use Rattle.std.proofs.Common.{◌≡◌, ◌++◌, ℕ, List, length, drop, true, refl}
 use Rattle.std.proofs.lemmas.Slice.Eq.{starts_is}
 use Rattle.std.proofs.lemmas.Bool.Decides.{Decides-eqb}
-use Rattle.doc_cond.specs.Lines.{begins}
+use Rattle.vkb_bytes.specs.Bytes.{begins}
 
 -- what begins with a word is the word and what follows it
 pub begins_front : (line word : List ℕ) → begins line word ≡ true → line ≡ word ++ drop (length word) line

@@ -9,3 +9,6 @@ pub mod Uniqueness
 pub mod Counting
 pub mod Ascii
 pub mod Ends
+pub mod Choices
+pub mod EveryLine
+pub mod EveryNest

@@ -5,8 +5,8 @@ use Rattle.std.specs.List.{list_all, prefix_len}
 use Rattle.std.proofs.lemmas.Bool.{false≢true, and_parts, and_from, or_from, not_from_false, ne_eqb}
 use Rattle.std.proofs.lemmas.List.Sums.{list_all-from_AllPass, prefix_len_passes}
 use Rattle.std.proofs.lemmas.List.{append_cancel_left, drop_at, take-append-drop, length-take, get_or-take}
-use Rattle.vkb_bytes.specs.Bytes.{is_letter, is_word_byte}
-use Rattle.doc_cond.specs.Lines.{Includes, IsApi, IsChapter, IsFile, IsOther, IsPage, IsValidity, IsRefpage, begins, is_blank, is_run, lacks}
+use Rattle.vkb_bytes.specs.Bytes.{begins, is_letter, is_word_byte}
+use Rattle.doc_cond.specs.Lines.{Includes, IsApi, IsChapter, IsFile, IsOther, IsPage, IsValidity, IsRefpage, is_blank, is_run, lacks}
 use Rattle.doc_cond.proofs.Fronts.{begins_on}
 use Rattle.doc_cond.proofs.Pieces.{cut_once, lacks_not, run_lacks, not_true, passing_differs}
 

@@ -2,10 +2,10 @@
 -- comments are those of the AsciiDoc language documentation. The includes and the lines that set `refpage` are those of the
 -- style guide "Vulkan Documentation and Extensions: Procedures and Conventions". It is this tool's own rule that `ifeval` is
 -- refused, and names with `,` and `+` between them, and `endif` with a text in its brackets.
-use Rattle.std.specs.Prelude.{◌≡◌, ◌≢◌, ◌⊎◌, ℕ, ◌+◌, ◌-◌, ◌<◌, Bool, true, false, ◌&&◌, ◌||◌, not, ◌==◌, if◌then◌else◌, List, ◌++◌, length, take, IsTrue, nat_eq, codes}
-use Rattle.std.specs.List.{AllByRecursion, join_with_byte, list_all, starts_with, suffix_len}
+use Rattle.std.specs.Prelude.{◌≡◌, ◌≢◌, ◌⊎◌, ℕ, ◌+◌, ◌-◌, ◌<◌, Bool, true, false, ◌&&◌, ◌||◌, not, ◌==◌, if◌then◌else◌, List, ◌++◌, length, take, IsTrue, codes}
+use Rattle.std.specs.List.{AllByRecursion, join_with_byte, list_all, suffix_len}
 use Rattle.std.specs.Str.{IsAscii}
-use Rattle.vkb_bytes.specs.Bytes.{is_letter, is_word_byte}
+use Rattle.vkb_bytes.specs.Bytes.{begins, is_letter, is_word_byte}
 use Rattle.doc_cond.specs.declared.CondFault.{CondFault}
 use Rattle.doc_cond.specs.declared.CondFault.TheVariants.{BadCondition, Unbalanced, CondDepth, Memory}
 use Rattle.doc_cond.specs.declared.LineKind.{LineKind}
@@ -22,9 +22,6 @@ is_end_blank b = is_blank b || b == 13
 -- the line without these at its end
 abbrev pub bare : List ℕ → List ℕ
 bare line = take (length line - suffix_len is_end_blank line) line
-
-abbrev pub begins : List ℕ → List ℕ → Bool
-begins line word = starts_with nat_eq line word
 
 -- one or more bytes, each of which passes
 abbrev pub is_run : (ℕ → Bool) → List ℕ → Bool

@@ -1,10 +1,11 @@
 //! What each line of the conditional AsciiDoc of the Vulkan sources is, and which `endif` closes which `ifdef`.
 #![tactic(auto)]
 
-ghost use Rattle.std.specs.Prelude.{◌≡◌, ℕ, ◌^◌, ◌<◌, ◌++◌, Bool, List, length, IsTrue, IfOk, MatchResult};
+ghost use Rattle.std.specs.Prelude.{◌≡◌, ◌≢◌, ◌⊎◌, ℕ, ◌^◌, ◌<◌, ◌++◌, Bool, List, length, IsTrue, IfOk, MatchResult};
 ghost use Rattle.std.specs.List.{list_all};
-ghost use Rattle.doc_cond.specs.Lines.{GivesAscii, Includes, IsApi, IsBegin, IsChapter, IsClose, IsKind, IsKindFault, IsOneLine, IsRefpage, IsValidity, IsWithin, bare, is_end_blank};
+ghost use Rattle.doc_cond.specs.Lines.{GivesAscii, Includes, IsApi, IsBadCondition, IsBegin, IsChapter, IsClose, IsKind, IsKindFault, IsOneLine, IsRefpage, IsValidity, IsWithin, bare, is_end_blank};
 ghost use Rattle.doc_cond.specs.Nesting.{ArePairs, IsCloserOf, IsFirstFault};
+ghost use Rattle.doc_cond.specs.declared.CondFault.{CondFault};
 ghost use Rattle.doc_cond.specs.declared.CondFault.TheVariants.{Memory};
 ghost use Rattle.doc_cond.specs.declared.LineKind.{LineKind};
 ghost use Rattle.doc_cond.specs.declared.LineKind.TheVariants.{Begin, OneLine, Close, Chapter, Api, Validity, Refpage};
@@ -124,6 +125,11 @@ pub fn one_kind()
     ensures { (line : List ℕ) (kind other : LineKind) → IsKind line kind → IsKind line other → kind ≡ other }
 {}
 
+/// Each line has a kind, or begins as a conditional and is spelled as none.
+pub fn each_line_is_read()
+    ensures { (line : List ℕ) → ((kind : LineKind) × IsKind line kind) ⊎ IsBadCondition (bare line) }
+{}
+
 /// What is added to a line's end and doesn't count there changes nothing, and a line that is made by a form is read by it.
 pub fn made_lines()
     ensures ends { (line ends : List ℕ) → IsTrue (list_all is_end_blank ends) → bare (line ++ ends) ≡ bare line }
@@ -158,6 +164,11 @@ pub fn pairs(alloc: Global, kinds: &[LineKind]) -> Result<Vec<(u32, u32)>, CondF
         line: nest.pairs[left].0,
     })
 }
+
+/// Each list of kinds has its pairs, or a first fault that isn't want of memory.
+pub fn each_list_is_paired()
+    ensures { (kinds : List LineKind) → ((pairs : List (ℕ × ℕ)) × ArePairs kinds pairs) ⊎ ((fault : CondFault) × IsFirstFault kinds fault × (fault ≢ Memory)) }
+{}
 
 /// An opener has one closer.
 pub fn one_closer()

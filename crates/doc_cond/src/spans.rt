@@ -1,8 +1,8 @@
 //! Cutting a line into its parts.
 ghost use Rattle.std.specs.Prelude.{◌≡◌, ◌↔◌, ◌&&◌, ◌||◌, ◌==◌, [], ◌∷◌, ◌++◌, ◌≤◌, List, ℕ, length, false, IsTrue, IfNone, IfSome};
 ghost use Rattle.std.specs.List.{list_all, prefix_len};
-ghost use Rattle.vkb_bytes.specs.Bytes.{is_letter, is_word_byte};
-ghost use Rattle.doc_cond.specs.Lines.{IsPart, bare, begins, is_blank, is_end_blank, is_name_byte, is_path_byte, is_run, lacks};
+ghost use Rattle.vkb_bytes.specs.Bytes.{begins, is_letter, is_word_byte};
+ghost use Rattle.doc_cond.specs.Lines.{IsPart, bare, is_blank, is_end_blank, is_name_byte, is_path_byte, is_run, lacks};
 
 use vkb_bytes::{is_letter, is_word_byte};
 

@@ -1,6 +1,7 @@
 use Rattle.std.proofs.Common.{◌≡◌, ◌∙◌, sym, ap, true, false}
 use Rattle.std.proofs.lemmas.Bool.{or_right, or_from}
-use Rattle.doc_cond.specs.Lines.{begins, opening}
+use Rattle.vkb_bytes.specs.Bytes.{begins}
+use Rattle.doc_cond.specs.Lines.{opening}
 use Rattle.doc_cond.proofs.Families.{unspelled_eval}
 use Rattle.doc_cond.proofs.lines.spelled.Goals as goal
 
