@@ -10,3 +10,5 @@ pub mod BuildLemmas
 pub mod MeaningLemmas
 pub mod ParseLemmas
 pub mod ReachLemmas
+pub mod ClosureLemmas
+pub mod WordLemmas

@@ -15,7 +15,7 @@ use Rattle.vkb_formula.proofs.FormulaLemmas.{value-All, value-Any, fold-Always, 
 use Rattle.vkb_formula.proofs.MadeLemmas.{length-unfolded, unfolded-push}
 
 module _ (set : List Bool) where
-  value-read : (made : List Formula) (k : ℕ) → value_of set (get_or made k formula.Never) ≡ get_or (map (value_of set) made) k false
+  pub value-read : (made : List Formula) (k : ℕ) → value_of set (get_or made k formula.Never) ≡ get_or (map (value_of set) made) k false
   value-read [] k = fold-Never (node_value set)
   value-read (f ∷ fs) zero = refl
   value-read (f ∷ fs) (suc k) = value-read fs k
@@ -33,7 +33,7 @@ module _ (set : List Bool) where
       ∙ ap (λ b. get_or (map (value_of set) made) p.0 false || b) (values-any made ps)
 
   -- a node's value is that of its formula
-  value-at : (made : List Formula) (n : PoolNode) → value_of set (formula_at made n) ≡ value_at set (map (value_of set) made) n
+  pub value-at : (made : List Formula) (n : PoolNode) → value_of set (formula_at made n) ≡ value_at set (map (value_of set) made) n
   value-at made node.Always = fold-Always (node_value set)
   value-at made node.Never = fold-Never (node_value set)
   value-at made (node.Var variable) = fold-Var (node_value set) variable
@@ -64,7 +64,7 @@ parts-before nodes i n set values pool is h e =
     let count : length values ≡ i = ap length e ∙ length-map (unfolded (take i nodes)) (value_of set) ∙ length-unfolded (take i nodes) ∙ length-take-le i nodes (omega arith) in
     subst (λ k. All (λ part. part < k) (parts_of n)) (sym count) (pool i n (slice_get-get_or nodes i n h ∙ ap Some (sym is)))
 
-reach-place : (nodes : List PoolNode) (i : ℕ) (d : PoolNode) → i < length nodes → reach_at (get_or nodes i d) ≤ pool_reach nodes
+pub reach-place : (nodes : List PoolNode) (i : ℕ) (d : PoolNode) → i < length nodes → reach_at (get_or nodes i d) ≤ pool_reach nodes
 reach-place [] i d h = absurd (omega arith)
 reach-place (n ∷ ns) zero d h = omega arith
 reach-place (n ∷ ns) (suc i) d h = omega (arith, reach-place ns i d (omega arith))
@@ -72,7 +72,7 @@ reach-place (n ∷ ns) (suc i) d h = omega (arith, reach-place ns i d (omega ari
 pub reach-node : (nodes : List PoolNode) (i : ℕ) (n : PoolNode) (most : ℕ) → n ≡ get_or nodes i n → i < length nodes → pool_reach nodes ≤ most → reach_at n ≤ most
 reach-node nodes i n most is h le = omega (arith, ap reach_at is, reach-place nodes i n h)
 
-All-unmap : {X Y : Type 0} (P : Y → Type 0) (f : X → Y) (xs : List X) → All P (map f xs) → All (λ x. P (f x)) xs
+pub All-unmap : {X Y : Type 0} (P : Y → Type 0) (f : X → Y) (xs : List X) → All P (map f xs) → All (λ x. P (f x)) xs
 All-unmap P f xs h = λ k d lt. subst P (get_or-map f xs k d (f d) lt) (h k (f d) (omega (arith, length-map xs f)))
 
 pub all-parts : (n : PoolNode) (parts now : List NodeId) (count : ℕ) → n ≡ node.All parts → now ≡ parts → All (λ part. part < count) (parts_of n) → All (λ part. part.0 < count) now

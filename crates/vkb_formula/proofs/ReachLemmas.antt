@@ -39,12 +39,12 @@ all-below : (nodes : List PoolNode) (made : List (ℕ → Bool)) → ReachesBelo
 all-below [] made h = h
 all-below (n ∷ ns) made h = all-below ns (made ++ reached_at made n ∷ []) (one-below made n h)
 
-reaches-below : (nodes : List PoolNode) (root place : ℕ) → reaches nodes root place ≡ true → place < length nodes
+pub reaches-below : (nodes : List PoolNode) (root place : ℕ) → reaches nodes root place ≡ true → place < length nodes
 reaches-below nodes root place e =
     let below = all-below nodes [] (λ r p f. absurd (true≢false (sym f))) root place e in
     omega (arith, below, length-made_from reached_at [] nodes)
 
-reaches-old : (nodes more : List PoolNode) (root : ℕ) → root < length nodes → reaches (nodes ++ more) root ≡ reaches nodes root
+pub reaches-old : (nodes more : List PoolNode) (root : ℕ) → root < length nodes → reaches (nodes ++ more) root ≡ reaches nodes root
 reaches-old nodes more root h =
     ap (λ (made : List (ℕ → Bool)). get_or made root (λ _. false)) (made_from-append reached_at [] nodes more)
     ∙ made_from-old reached_at (made_from reached_at [] nodes) more root (λ _. false) (omega (arith, length-made_from reached_at [] nodes))
@@ -75,7 +75,7 @@ formulas-stay nodes more place h =
 
 -- ---- a node that is put on others
 
-sum_where-wider : (weigh : PoolNode → ℕ) (less more : ℕ → Bool) (place : ℕ) (nodes : List PoolNode) → ((k : ℕ) → k < place + length nodes → less k ≡ true → more k ≡ true) → sum_where weigh less place nodes ≤ sum_where weigh more place nodes
+pub sum_where-wider : (weigh : PoolNode → ℕ) (less more : ℕ → Bool) (place : ℕ) (nodes : List PoolNode) → ((k : ℕ) → k < place + length nodes → less k ≡ true → more k ≡ true) → sum_where weigh less place nodes ≤ sum_where weigh more place nodes
 sum_where-wider weigh less more place [] h = omega arith
 sum_where-wider weigh less more place (n ∷ ns) h =
     let rest = sum_where-wider weigh less more (place + 1) ns (λ k lt e. h k (omega arith) e) in

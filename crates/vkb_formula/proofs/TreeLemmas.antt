@@ -11,7 +11,7 @@ use Rattle.vkb_formula.specs.Pools.{parts_of, formula_at, unfolded, entries_of, 
 use Rattle.vkb_formula.specs.Trees.{AreFrom, PutsTree, PutsTrees}
 use Rattle.vkb_formula.specs.declared.formula.Formula.{Formula}
 use Rattle.vkb_formula.specs.declared.formula.Formula.TheVariants as formula
-use Rattle.vkb_formula.specs.declared.memory.Memory.{Memory}
+use Rattle.vkb_bytes.specs.declared.memory.Memory.{Memory}
 use Rattle.vkb_formula.specs.declared.pool.NodeId.{NodeId}
 use Rattle.vkb_formula.specs.declared.pool.PoolNode.{PoolNode}
 use Rattle.vkb_formula.specs.declared.pool.PoolNode.TheVariants as node

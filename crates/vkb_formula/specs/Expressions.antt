@@ -77,6 +77,17 @@ abbrev mutual
   words_in (Both left atom) = words_in left + atom_words atom
   words_in (Either left atom) = words_in left + atom_words atom
 
+-- the names, in their order
+abbrev mutual
+  pub atom_names : Atom → List (List ℕ)
+  atom_names (Name name) = name ∷ []
+  atom_names (Group inner) = names_of inner
+
+  pub names_of : Expression → List (List ℕ)
+  names_of (Single atom) = atom_names atom
+  names_of (Both left atom) = names_of left ++ atom_names atom
+  names_of (Either left atom) = names_of left ++ atom_names atom
+
 -- The text spells the expression: parentheses nest at most 64 deep, and there are at most 4,096 names, a member being
 -- one.
 pub record Spells (e : Expression) (text : List ℕ) : Type 0 where

@@ -1,6 +1,7 @@
 pub mod Names
 pub mod Formulas
 pub mod Pools
+pub mod Reaches
 pub mod Trees
 pub mod Expressions
 pub mod Marks

@@ -108,3 +108,11 @@ sum_where weigh passes place (first ∷ nodes) = (if passes place then weigh fir
 -- the sum over all nodes that a node reaches, each once
 abbrev pub sum_reached : (PoolNode → ℕ) → List PoolNode → ℕ → ℕ
 sum_reached weigh nodes root = sum_where weigh (reaches nodes root) 0 nodes
+
+-- whether one of some nodes leads to the node at a place
+abbrev pub reaches_any : List PoolNode → List ℕ → ℕ → Bool
+reaches_any nodes roots place = list_any (λ root. reaches nodes root place) roots
+
+-- the sum over all nodes that some nodes reach, each once
+abbrev pub sum_reached_any : (PoolNode → ℕ) → List PoolNode → List ℕ → ℕ
+sum_reached_any weigh nodes roots = sum_where weigh (reaches_any nodes roots) 0 nodes

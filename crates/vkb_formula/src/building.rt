@@ -3,9 +3,9 @@ ghost use Rattle.vkb_formula.specs.Expressions.{formula_of_name};
 ghost use Rattle.vkb_formula.specs.Building.{Built, joined, joined_by, atom_built, level_built, with_byte, built_from, joint_of, nothing_built, built_so_far};
 
 use crate::formula::{Formula, all, any};
-use crate::memory::Memory;
 use crate::name_table::NameTable;
 use std::alloc::Global;
+use vkb_bytes::Memory;
 
 /// How two formulas are joined.
 #[derive(Clone, Copy)]

@@ -1,5 +1,5 @@
-ghost use Rattle.std.specs.Prelude.{◌≡◌, ◌<◌, ◌^◌, ◌++◌, ◌≤◌, ◌≢◌, ◌↔◌, ℕ, length, take, Bool, List, None, IfOk, IfErr, All};
-ghost use Rattle.vkb_formula.specs.Expressions.{Expression, Spells, formula_of, holds, has_option, places_of, words_in, IsSized, IsFront, IsStop};
+ghost use Rattle.std.specs.Prelude.{◌≡◌, ◌<◌, ◌^◌, ◌++◌, ◌≤◌, ◌≢◌, ◌↔◌, ℕ, length, take, map, slice_range, Bool, List, None, IfOk, IfErr, All};
+ghost use Rattle.vkb_formula.specs.Expressions.{Expression, Spells, formula_of, holds, has_option, places_of, words_in, names_of, IsSized, IsFront, IsStop};
 ghost use Rattle.vkb_formula.specs.Formulas.{value_of, reach_of};
 ghost use Rattle.vkb_formula.specs.Building.{runs_of};
 ghost use Rattle.vkb_formula.specs.Faults.{IsStopFault, GivesOrMemory, GivesItemsOrMemory};
@@ -7,11 +7,10 @@ ghost use Rattle.vkb_formula.specs.Faults.{IsStopFault, GivesOrMemory, GivesItem
 use crate::building::build;
 use crate::formula::Formula;
 use crate::mark::stop_of;
-use crate::memory::Memory;
 use crate::name_table::NameTable;
 use std::alloc::Global;
 use thiserror::Error;
-use vkb_bytes::is_word_byte;
+use vkb_bytes::{Memory, is_word_byte};
 
 /// Why a `depends` expression wasn't read.
 #[derive(Debug, Drop, Error)]
@@ -63,13 +62,20 @@ pub fn read_depends(alloc: Global, text: &[u8], options: &NameTable) -> Result<F
     Ok(build(alloc, text, options)?)
 }
 
-/// Where each name of an expression begins and ends, in order: the place of its first byte, and that after its last.
+/// Where each name of an expression begins and ends, in order, one entry for each: the place of its first byte, and that
+/// after its last.
 ///
 /// `BadExpression` as from `read_depends`.
 pub fn words_of(alloc: Global, text: &[u8]) -> Result<Vec<(u32, u32)>, ExprFault>
     requires { length text.now < 2 ^ 32 }
     ensures read { IfOk result (λ places. (e : Expression) × Spells e text.now × (places.items ≡ places_of 0 e)) }
     ensures only { (e : Expression) → Spells e text.now → GivesItemsOrMemory (places_of 0 e) result }
+
+    // They are its names, in their order, and no others.
+    ensures names { IfOk result (λ places. (e : Expression) → Spells e text.now
+        → map (λ place. slice_range text.now place.0 place.1) places.items ≡ names_of e) }
+
+    ensures count { IfOk result (λ places. (e : Expression) → Spells e text.now → length places.items ≡ words_in e) }
     ensures within { IfOk result (λ places. All (λ place. (place.0 < place.1) × (place.1 ≤ length text.now)) places.items) }
     ensures fault { IsStopFault text.now result }
 {

@@ -2,9 +2,9 @@ ghost use Rattle.std.specs.Prelude.{◌≡◌, ◌+◌, ◌≤◌, Bool, List, l
 ghost use Rattle.std.specs.List.{list_all, list_any};
 ghost use Rattle.vkb_formula.specs.Formulas.{value_of, reach_of, greatest, size_of, variables_of, clauses_of};
 
-use crate::memory::Memory;
 use sqlite_items::{Boxed, Items};
 use std::alloc::Global;
+use vkb_bytes::Memory;
 
 /// A formula over numbered variables. An empty `All` is true, and an empty `Any` is false.
 #[derive(Drop)]

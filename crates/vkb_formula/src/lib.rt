@@ -6,7 +6,6 @@ mod building;
 mod depends;
 mod formula;
 mod mark;
-mod memory;
 mod name_set;
 mod name_table;
 mod names;
@@ -16,11 +15,14 @@ pub use depends::{
     ExprFault, a_stop_is_the_longest_front, a_text_is_one_expression, read_depends, words_of,
 };
 pub use formula::{Formula, all, any, not};
-pub use memory::Memory;
 pub use name_set::NameSet;
 pub use name_table::{NameFault, NameId, NameTable};
 pub use names::Names;
-pub use pool::{NodeId, Pool, PoolNode, nodes_keep_their_meaning};
+pub use pool::{
+    NodeId, Pool, PoolNode, nodes_keep_their_meaning, reached_are_the_roots_and_their_parts,
+    values_are_by_parts,
+};
+pub use vkb_bytes::Memory;
 
 #[cfg(test)]
 mod tests;

@@ -1,9 +1,9 @@
 ghost use Rattle.std.specs.Prelude.{◌≡◌, ◌<◌, length, replicate, false, true, slice_set, slice_get, Some, IfOk};
 
-use crate::memory::Memory;
 use crate::name_table::NameId;
 use std::alloc::Global;
 use std::marker::Model;
+use vkb_bytes::Memory;
 
 /// A set of places of names. Contracts see it as a list that tells of each place whether it was added.
 #[derive(Drop)]

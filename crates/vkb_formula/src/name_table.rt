@@ -1,11 +1,11 @@
 ghost use Rattle.std.specs.Prelude.{◌≡◌, [], ◌<◌, ◌≤◌, ◌↔◌, List, ℕ, length, slice_get, Some, None, IfSome, IfNone, IfOk, OnOk, OnErr, IsErrOf, option_map};
 ghost use Rattle.vkb_formula.specs.Names.{most_names, place_of, with_name, AreDifferent};
 
-use crate::memory::Memory;
 use crate::names::Names;
 use std::alloc::Global;
 use std::marker::Model;
 use thiserror::Error;
+use vkb_bytes::Memory;
 
 /// The place of a name in a table, from 0.
 #[derive(Clone, Copy, Debug, PartialEq, Eq, PartialOrd, Ord, Hash)]
@@ -80,6 +80,7 @@ impl NameTable {
         ensures held { IfOk result (λ id. slice_get self.new id.0 ≡ Some name.now) }
         ensures keeps { OnOk result ((other : List ℕ) (place : ℕ)
             → place_of other self.old ≡ Some place → place_of other self.new ≡ Some place) }
+        ensures different { AreDifferent self.new }
         ensures full { IsErrOf result NameFault.Full
             ↔ ((place_of name.now self.old ≡ None) × (length self.old ≡ most_names)) }
         ensures err { OnErr result (self.new ≡ self.old) }
@@ -97,6 +98,7 @@ impl NameTable {
         ensures place { option_map (λ id. id.0) result ≡ place_of name.now self.now }
         ensures found { IfSome result (λ id. slice_get self.now id.0 ≡ Some name.now) }
         ensures absent { IfNone result ((place : ℕ) → slice_get self.now place ≡ Some name.now → ⊥) }
+        ensures different { AreDifferent self.now }
     {
         let place = self.names.find(name)?;
         Some(NameId(place as u32))
@@ -105,7 +107,8 @@ impl NameTable {
     /// The name at a place.
     pub fn name(&self, id: NameId) -> &[u8]
         requires { id.0 < length self.now }
-        ensures { slice_get self.now id.0 ≡ Some result.now }
+        ensures held { slice_get self.now id.0 ≡ Some result.now }
+        ensures different { AreDifferent self.now }
     {
         self.names.name(id.0 as usize)
     }

@@ -1,10 +1,10 @@
 ghost use Rattle.std.specs.Prelude.{◌≡◌, ◌++◌, [], ◌∷◌, ◌+◌, ◌<◌, List, ℕ, length, slice_get, Some, None, IfSome, IfNone, IfOk, OnOk, OnErr, map};
 ghost use Rattle.vkb_formula.specs.Names.{place_of, with_name, AreDifferent};
 
-use crate::memory::Memory;
 use indexmap::IndexSet;
 use std::alloc::Global;
 use std::marker::Model;
+use vkb_bytes::Memory;
 
 /// Different names, each at the place at which it was first put in, from 0. Their number has no limit. A name is found by
 /// its hash.
@@ -68,6 +68,7 @@ impl Names {
         ensures found { IfSome result (λ place. slice_get self.now place ≡ Some name.now) }
         ensures within { IfSome result (λ place. place < length self.now) }
         ensures absent { IfNone result ((place : ℕ) → slice_get self.now place ≡ Some name.now → ⊥) }
+        ensures different { AreDifferent self.now }
     {
         let place = place_in(&self.names, name)?;
         Some(place)
@@ -76,7 +77,8 @@ impl Names {
     /// The name at a place. It takes no memory.
     pub fn name(&self, place: usize) -> &[u8]
         requires { place < length self.now }
-        ensures { slice_get self.now place ≡ Some result.now }
+        ensures held { slice_get self.now place ≡ Some result.now }
+        ensures different { AreDifferent self.now }
     {
         self.names.as_slice()[place].as_slice()
     }

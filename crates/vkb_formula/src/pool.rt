@@ -2,13 +2,13 @@ ghost use Rattle.std.specs.Prelude.{◌≡◌, ◌+◌, ◌*◌, ◌<◌, ◌≤
 ghost use Rattle.std.specs.List.{list_all, list_any};
 ghost use Rattle.vkb_formula.specs.Formulas.{reach_of, size_of, variables_of, clauses_of};
 ghost use Rattle.vkb_formula.specs.Pools.{parts_of, IsPool, Extends, unfolded, pool_values, value_at, entries_of, pool_size, reach_at, pool_reach, formula_at, node_variables, node_clauses, sum_reached};
+ghost use Rattle.vkb_formula.specs.Reaches.{ReachIsByParts, ReachIsDown, ReachHasRoots, ReachIsClosed, ReachIsLeast, SumIsLeast, SumIsExact, OneRoot, ValuesAreByParts, ReachIsGreatest};
 ghost use Rattle.vkb_formula.specs.Trees.{PutsTree, PutsTrees};
 
 use crate::formula::Formula;
-use crate::memory::Memory;
 use std::alloc::Global;
 use std::marker::Model;
-use vkb_bytes::Listed;
+use vkb_bytes::{Listed, Memory};
 
 /// The place of a node in a pool, from 0.
 #[derive(Clone, Copy, Debug, PartialEq, Eq)]
@@ -109,6 +109,16 @@ impl Pool {
         put_nodes(self, f)
     }
 
+    /// The node at a place. It takes no memory.
+    pub fn node(&self, id: NodeId) -> &PoolNode
+        requires { id.0 < length self.now }
+        ensures node { slice_get self.now id.0 ≡ Some result.now }
+        ensures parts { All (λ part. part < id.0) (parts_of result.now) }
+        ensures reach { reach_at result.now ≤ pool_reach self.now }
+    {
+        &self.nodes[id.0 as usize]
+    }
+
     /// The value of each node at a set, which tells of each variable whether it is true.
     pub fn values(&self, set: &[bool]) -> Result<Vec<bool>, Memory>
         requires { pool_reach self.now ≤ length set.now }
@@ -122,7 +132,8 @@ impl Pool {
     #[tactic(auto, using(crate::proofs::PoolLemmas::pool_facts))]
     pub fn cut(&mut self, len: u64)
         requires { len ≤ length self.old }
-        ensures { self.new ≡ take len self.old }
+        ensures kept { self.new ≡ take len self.old }
+        ensures reach { pool_reach self.new ≤ pool_reach self.old }
     {
         self.size = cut_nodes(&mut self.nodes, self.size, len as usize);
     }
@@ -141,6 +152,25 @@ pub fn nodes_keep_their_meaning()
     ensures shared { (nodes : List PoolNode) (last : PoolNode) (weigh : PoolNode → ℕ)
         → sum_reached weigh (nodes ++ last ∷ []) (length nodes)
         ≤ weigh last + sum_by (sum_reached weigh nodes) (parts_of last) }
+{}
+
+/// A law: what nodes reach, from both sides. It is the least set that has them, and with each node its parts, so that
+/// who marks them from the roots down has marked it.
+pub fn reached_are_the_roots_and_their_parts()
+    ensures parts { ReachIsByParts }
+    ensures down { ReachIsDown }
+    ensures roots { ReachHasRoots }
+    ensures closed { ReachIsClosed }
+    ensures least { ReachIsLeast }
+    ensures sum { SumIsLeast }
+    ensures exact { SumIsExact }
+    ensures one { OneRoot }
+{}
+
+/// A law: what a node says is what its parts say, and a variable lies within the reach of its pool.
+pub fn values_are_by_parts()
+    ensures values { ValuesAreByParts }
+    ensures reach { ReachIsGreatest }
 {}
 
 /// One for a node, and one for each of its parts.

@@ -250,6 +250,8 @@ fn nodes_of_a_pool_have_values(rt: HostRuntime) -> Result<(), Fail> {
         [true, false, true, false, false].as_slice()
     );
     assert_eq!(rt; pool.size(), 10);
+    assert!(rt; matches!(pool.node(NodeId(1)), PoolNode::Var(1)));
+    assert!(rt; matches!(pool.node(NodeId(3)), PoolNode::Not(NodeId(2))));
     pool.cut(2);
     assert_eq!(rt; pool.size(), 2);
     Ok(())
