@@ -1,0 +1,7 @@
+use Rattle.std.proofs.Common.{◌≡◌, map, take}
+use Rattle.vkb_formula.specs.declared.pool.NodeId.{NodeId}
+use Rattle.sat_cnf.specs.Coding.{lit_in}
+use Rattle.sat_cnf.proofs.gates.lits_of.Given as goal
+
+abbrev pub invariant-loop-part : goal.invariant-loop-part
+invariant-loop-part l = l.lits.items ≡ map (λ (part : NodeId). lit_in l.table part.0) (take l.part-index l.parts)

@@ -1,0 +1,5 @@
+pub mod Lits
+pub mod Clauses
+pub mod Models
+pub mod Encoding
+pub mod Coding
