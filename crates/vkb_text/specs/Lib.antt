@@ -1,0 +1,4 @@
+pub mod Buffer
+pub mod Lines
+pub mod Placed
+pub mod Spans
