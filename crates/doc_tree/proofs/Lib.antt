@@ -1,0 +1,14 @@
+pub mod NamesLemmas
+pub mod PairsLemmas
+pub mod ReadingLemmas
+pub mod RoundsLemmas
+pub mod DraftLemmas
+pub mod TakeLemmas
+pub mod SourceLemmas
+pub mod RunLemmas
+pub mod OpenLemmas
+pub mod WalkLemmas
+pub mod FollowLemmas
+pub mod FoundLemmas
+pub mod UniqueLemmas
+pub mod LoadLemmas

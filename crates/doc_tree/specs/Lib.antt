@@ -1,0 +1,10 @@
+pub mod Answer
+pub mod Fault
+pub mod Flat
+pub mod Loaded
+pub mod Names
+pub mod Opening
+pub mod Progress
+pub mod Running
+pub mod Sources
+pub mod Walk
