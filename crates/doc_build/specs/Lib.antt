@@ -1,0 +1,5 @@
+pub mod Breaks
+pub mod Choices
+pub mod Ids
+pub mod Laws
+pub mod Pieces

@@ -1,0 +1,62 @@
+//! What the definitions of choices, pieces and ids say, in other words: none of these calls does anything, and its clauses are
+//! what is proved.
+ghost use Rattle.std.specs.Prelude.{◌≡◌, ℕ, ◌<◌, false, not, ◌&&◌, List, [], ◌++◌, Some, length, filter, replicate, slice_get, All, AllPairs};
+ghost use Rattle.std.specs.List.{flat_map};
+ghost use Rattle.vkb_formula.specs.Names.{AreDifferent};
+ghost use Rattle.doc_tree.specs.Flat.{FlatLine, is_among};
+ghost use Rattle.doc_tree.specs.Names.{each_once, names_in};
+ghost use Rattle.doc_build.specs.Choices.{Choice, bare_setting, chosen_of, free_names, names_set};
+ghost use Rattle.doc_build.specs.Ids.{id_at};
+ghost use Rattle.doc_build.specs.Laws.{IsBefore, SetsNoPage, is_kept_at};
+ghost use Rattle.doc_build.specs.Pieces.{Link, all_links, all_pieces, anchors_of, links_of, pieces_of};
+
+/// Over no registry, the anchors and the links of the built text are those of the document whose lines are kept, in order.
+pub fn kept_marks()
+    ensures anchors { (always : List (List ℕ)) (lines : List FlatLine) (choice : Choice)
+        → anchors_of (pieces_of (bare_setting always lines) lines choice)
+        ≡ filter (λ anchor. is_kept_at (names_set (bare_setting always lines) choice) lines anchor.line) (anchors_of (all_pieces (bare_setting always lines) lines)) }
+    ensures links { (always : List (List ℕ)) (lines : List FlatLine) (choice : Choice)
+        → links_of (pieces_of (bare_setting always lines) lines choice)
+        ≡ filter (λ link. is_kept_at (names_set (bare_setting always lines) choice) lines link.place.line) (all_links (bare_setting always lines) lines) }
+{}
+
+/// Over no registry, each anchor and each link of a document is in one of its lines.
+pub fn marks_in_lines()
+    ensures anchors { (always : List (List ℕ)) (lines : List FlatLine)
+        → All (λ anchor. anchor.line < length lines) (anchors_of (all_pieces (bare_setting always lines) lines)) }
+    ensures links { (always : List (List ℕ)) (lines : List FlatLine)
+        → All (λ link. link.place.line < length lines) (all_links (bare_setting always lines) lines) }
+{}
+
+/// Over no registry, the links of a document stand in the order of their places, so no two have the same place.
+pub fn links_in_order()
+    ensures order { (always : List (List ℕ)) (lines : List FlatLine)
+        → AllPairs (λ link later. IsBefore link.place later.place) (all_links (bare_setting always lines) lines) }
+    ensures apart { (always : List (List ℕ)) (lines : List FlatLine) (i j : ℕ) (link other : Link)
+        → slice_get (all_links (bare_setting always lines) lines) i ≡ Some link → slice_get (all_links (bare_setting always lines) lines) j ≡ Some other
+        → link.place ≡ other.place → i ≡ j }
+{}
+
+/// Where no line sets the page, each id is as it is written.
+pub fn ids_as_written()
+    ensures { (lines : List FlatLine) (set : List (List ℕ)) (place : ℕ) (written : List ℕ) → SetsNoPage lines → id_at lines set place written ≡ written }
+{}
+
+/// Over no registry, the options are the names that conditions mention and that aren't always set, each once, in the order of
+/// first mention: further names, and further lines, add behind the others those that are new.
+pub fn options_follow_the_rule()
+    ensures different { (always : List (List ℕ)) (lines : List FlatLine) → AreDifferent (free_names always lines) }
+    ensures members { (always : List (List ℕ)) (lines : List FlatLine) (name : List ℕ)
+        → is_among (free_names always lines) name ≡ (is_among (flat_map (λ line. names_in line.kind) lines) name && not (is_among always name)) }
+    ensures order { (names more : List (List ℕ))
+        → each_once (names ++ more) ≡ each_once names ++ filter (λ name. not (is_among names name)) (each_once more) }
+    ensures longer { (always : List (List ℕ)) (lines more : List FlatLine)
+        → free_names always (lines ++ more) ≡ free_names always lines ++ filter (λ name. not (is_among (free_names always lines) name)) (free_names always more) }
+{}
+
+/// Over no registry, there is a permitted choice: the one that chooses nothing.
+pub fn permitted_choices()
+    ensures permitted { (always : List (List ℕ)) (lines : List FlatLine)
+        → (bare_setting always lines).Permits (replicate (length (free_names always lines)) false) }
+    ensures nothing { (options : List (List ℕ)) → chosen_of options (replicate (length options) false) ≡ [] }
+{}
