@@ -1,0 +1,14 @@
+pub mod ZipLemmas
+pub mod LinesLemmas
+pub mod ChoicesLemmas
+pub mod MarksLemmas
+pub mod PiecesLemmas
+pub mod SearchLemmas
+pub mod SitesLemmas
+pub mod VerdictLemmas
+pub mod LawLemmas
+pub mod ConditionLemmas
+pub mod LineLemmas
+pub mod NodesLemmas
+pub mod OptionsLemmas
+pub mod SettingLemmas

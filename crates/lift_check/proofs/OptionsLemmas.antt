@@ -1,0 +1,237 @@
+-- Which names are options, and what each name is.
+use Rattle.std.proofs.Common.{inl, inr, ◌≡◌, ◌∙◌, refl, sym, ap, subst, ℕ, zero, suc, ◌+◌, Bool, true, false, not, ◌&&◌, ◌||◌, cond, List, [], ◌∷◌, ◌++◌, length, take, filter, All, Option, Some, None, option_map, is_some, slice_get, arith}
+use Rattle.std.specs.Str.{bytes_eq}
+use Rattle.std.specs.Cmp.Lexicographic.{bytes_decides}
+use Rattle.std.specs.List.{AllZip}
+use Rattle.std.proofs.Math.Bool.{or-false}
+use Rattle.std.proofs.lemmas.Bool.{cases_Bool, false≢true}
+use Rattle.std.proofs.lemmas.List.{append-nil, take_more}
+use Rattle.std.proofs.lemmas.List.Elements.{All-cons, All-nil, filter-append, filter_agree}
+use Rattle.std.proofs.lemmas.List.Folds.{flat_map-map, list_any-append}
+use Rattle.std.proofs.lemmas.Option.{get_or_from_slice_get, slice_get_within}
+use Rattle.std.proofs.lemmas.Slice.Zip.{all_zipped_more}
+use Rattle.vkb_formula.specs.Names.{AreDifferent, place_of, with_name}
+use Rattle.doc_tree.specs.declared.Document.{Document}
+use Rattle.doc_tree.specs.Flat.{is_among}
+use Rattle.doc_tree.specs.Loaded.{IsLoaded, flat_line, flat_of, rounds_of}
+use Rattle.doc_tree.specs.Names.{each_once, names_in}
+use Rattle.doc_build.specs.Choices.{free_names}
+use Rattle.lift_check.specs.declared.options.OptionId.{OptionId}
+use Rattle.lift_check.specs.declared.options.Setting.{Setting}
+use Rattle.lift_check.specs.declared.options.Setting.TheVariants.{Fixed, Free, Unset}
+use Rattle.lift_check.specs.Options.{AreSettings, IsBelow, IsSetting, Settings, free_among}
+use Rattle.lift_check.proofs.SettingLemmas.{is_among-absent, is_among-held}
+
+-- ---- tables
+
+is_same : (a b : List ℕ) → bytes_eq a b ≡ true → a ≡ b
+is_same a b = (bytes_decides a b).0
+
+first-or-later : (first : Bool) (later : Option ℕ) → is_some (cond first (Some 0) (option_map (λ place. place + 1) later)) ≡ (first || is_some later)
+first-or-later true later = refl
+first-or-later false None = refl
+first-or-later false (Some place) = refl
+
+-- a name has a place in a table exactly where it is among its names
+pub is_some-place_of : (name : List ℕ) (names : List (List ℕ)) → is_some (place_of name names) ≡ is_among names name
+is_some-place_of name [] = refl
+is_some-place_of name (first ∷ names) =
+    first-or-later (bytes_eq name first) (place_of name names) ∙ ap (λ later. bytes_eq name first || later) (is_some-place_of name names)
+
+-- a name that is among a table's changes nothing
+with_name-held : (name : List ℕ) (names : List (List ℕ)) → is_among names name ≡ true → with_name name names ≡ names
+with_name-held name names h = ap (λ b. cond b names (names ++ name ∷ [])) (is_some-place_of name names ∙ h)
+
+-- a name that isn't among a table's is put last
+with_name-new : (name : List ℕ) (names : List (List ℕ)) → is_among names name ≡ false → with_name name names ≡ names ++ name ∷ []
+with_name-new name names h = ap (λ b. cond b names (names ++ name ∷ [])) (is_some-place_of name names ∙ h)
+
+is_among-last : (names : List (List ℕ)) (name other : List ℕ) → is_among (names ++ name ∷ []) other ≡ (is_among names other || bytes_eq other name)
+is_among-last names name other =
+    list_any-append (bytes_eq other) names (name ∷ []) ∙ ap (λ b. is_among names other || b) (or-false (bytes_eq other name))
+
+-- a test that holds of a name which is the other adds nothing to what holds of the other
+or-held : (held same : Bool) → (same ≡ true → held ≡ true) → held ≡ (held || same)
+or-held true same h = refl
+or-held false true h = h refl
+or-held false false h = refl
+
+-- what is among a table after a name was put in: what was before, and that name
+pub is_among-with_name : (name : List ℕ) (names : List (List ℕ)) (other : List ℕ) → is_among (with_name name names) other ≡ (is_among names other || bytes_eq other name)
+is_among-with_name name names other =
+    elim (cases_Bool (is_among names name)) [
+      | inl held ↦
+          ap (λ table. is_among table other) (with_name-held name names held)
+          ∙ or-held (is_among names other) (bytes_eq other name) (λ same. ap (is_among names) (is_same other name same) ∙ held)
+      | inr new ↦ ap (λ table. is_among table other) (with_name-new name names new) ∙ is_among-last names name other
+    ]
+
+-- ---- names that differ
+
+-- no name stands behind itself
+abbrev AreOnce : List (List ℕ) → Type 0
+AreOnce [] = Unit {0}
+AreOnce (name ∷ names) = (is_among names name ≡ false) × AreOnce names
+
+AreOnce-different : (names : List (List ℕ)) → AreDifferent names → AreOnce names
+AreOnce-different [] different = tt
+AreOnce-different (name ∷ names) different = (
+  is_among-absent names name (λ place at. let same = different 0 (suc place) name refl at in absurd (omega arith)),
+  AreOnce-different names (λ i j other at_i at_j. let same = different (suc i) (suc j) other at_i at_j in omega arith),
+)
+
+-- one more name, that passes or doesn't
+one_passes : (same later passes : Bool) → (same ≡ true → passes ≡ true) → (same || (later && passes)) ≡ ((same || later) && passes)
+one_passes true later passes h = sym (h refl)
+one_passes false later passes h = refl
+
+one_fails : (same later passes : Bool) → (same ≡ true → passes ≡ false) → (later && passes) ≡ ((same || later) && passes)
+one_fails true true passes h = h refl ∙ sym (h refl)
+one_fails true false passes h = sym (h refl)
+one_fails false later passes h = refl
+
+-- a name is among those that pass where it is among all and passes
+is_among-filter : (test : List ℕ → Bool) (names : List (List ℕ)) (name : List ℕ) → is_among (filter test names) name ≡ (is_among names name && test name)
+is_among-filter test [] name = refl
+is_among-filter test (first ∷ names) name =
+    let rest = is_among-filter test names name in
+    let as_first : bytes_eq name first ≡ true → test name ≡ test first = λ same. ap test (is_same name first same) in
+    elim (cases_Bool (test first)) [
+      | inl passes ↦ rw passes (ap (λ b. bytes_eq name first || b) rest ∙ one_passes (bytes_eq name first) (is_among names name) (test name) (λ same. as_first same ∙ passes))
+      | inr fails ↦ rw fails (rest ∙ one_fails (bytes_eq name first) (is_among names name) (test name) (λ same. as_first same ∙ fails))
+    ]
+
+AreOnce-filter : (test : List ℕ → Bool) (names : List (List ℕ)) → AreOnce names → AreOnce (filter test names)
+AreOnce-filter test [] once = tt
+AreOnce-filter test (name ∷ names) once =
+    let rest = AreOnce-filter test names once.1 in
+    let new : is_among (filter test names) name ≡ false = is_among-filter test names name ∙ ap (λ b. b && test name) once.0 in
+    elim (cases_Bool (test name)) [ inl passes ↦ rw passes (new, rest) | inr fails ↦ rw fails rest ]
+
+-- the first name stands at no later place
+never_later : (name : List ℕ) (names : List (List ℕ)) (place : ℕ) (other : List ℕ) → is_among names name ≡ false → Some name ≡ Some other → slice_get names place ≡ Some other → ⊥
+never_later name names place other new first later =
+    false≢true (sym new ∙ is_among-held names name place (later ∙ sym first))
+
+AreDifferent-once : (names : List (List ℕ)) → AreOnce names → AreDifferent names
+AreDifferent-once [] once i j name at_i at_j = cc
+AreDifferent-once (first ∷ names) once zero zero name at_i at_j = refl
+AreDifferent-once (first ∷ names) once zero (suc j) name at_i at_j = absurd (never_later first names j name once.0 at_i at_j)
+AreDifferent-once (first ∷ names) once (suc i) zero name at_i at_j = absurd (never_later first names i name once.0 at_j at_i)
+AreDifferent-once (first ∷ names) once (suc i) (suc j) name at_i at_j = ap (λ n. suc n) (AreDifferent-once names once.1 i j name at_i at_j)
+
+-- the options differ where all names do
+pub options-differ : (fixed names : List (List ℕ)) → AreDifferent names → AreDifferent (free_among fixed names)
+options-differ fixed names different =
+    AreDifferent-once (free_among fixed names) (AreOnce-filter (λ name. not (is_among fixed name)) names (AreOnce-different names different))
+
+-- ---- settings, one after another
+
+-- what a name is over no registry: always set or an option
+abbrev pub IsBareSetting : List (List ℕ) → List (List ℕ) → List ℕ → Setting → Type 0
+IsBareSetting fixed free name Unset = ⊥
+IsBareSetting fixed free name setting = IsSetting fixed free name setting
+
+-- so far each name is always set or an option
+pub record AreBare (fixed names free : List (List ℕ)) (settings : List Setting) : Type 0 where
+  pub free_are : free ≡ free_among fixed names
+  pub each : AllZip (IsBareSetting fixed free) names settings
+
+slice_get-left : (names more : List (List ℕ)) (place : ℕ) (name : List ℕ) → slice_get names place ≡ Some name → slice_get (names ++ more) place ≡ Some name
+slice_get-left [] more place name held = absurd (cc)
+slice_get-left (first ∷ names) more zero name held = held
+slice_get-left (first ∷ names) more (suc place) name held = slice_get-left names more place name held
+
+slice_get-last : (names : List (List ℕ)) (name : List ℕ) → slice_get (names ++ name ∷ []) (length names) ≡ Some name
+slice_get-last [] name = refl
+slice_get-last (first ∷ names) name = slice_get-last names name
+
+IsBare-more : (fixed free more : List (List ℕ)) (name : List ℕ) (setting : Setting) → IsBareSetting fixed free name setting → IsBareSetting fixed (free ++ more) name setting
+IsBare-more fixed free more name Fixed is = is
+IsBare-more fixed free more name (Free option) is = (is.0, slice_get-left free more option.0 name is.1)
+IsBare-more fixed free more name Unset is = absurd is
+
+AllBare-more : (fixed free more names : List (List ℕ)) (settings : List Setting) → AllZip (IsBareSetting fixed free) names settings → AllZip (IsBareSetting fixed (free ++ more)) names settings
+AllBare-more fixed free more [] [] each = tt
+AllBare-more fixed free more [] (s ∷ settings) each = absurd each
+AllBare-more fixed free more (n ∷ names) [] each = absurd each
+AllBare-more fixed free more (n ∷ names) (s ∷ settings) each = (IsBare-more fixed free more n s each.0, AllBare-more fixed free more names settings each.1)
+
+free-more : (fixed names : List (List ℕ)) (name : List ℕ) (b : Bool) → is_among fixed name ≡ b → free_among fixed (names ++ name ∷ []) ≡ free_among fixed names ++ cond (not b) (name ∷ []) []
+free-more fixed names name b is =
+    filter-append (λ other. not (is_among fixed other)) names (name ∷ []) ∙ ap (λ b. free_among fixed names ++ cond (not b) (name ∷ []) []) is
+
+-- one name more that is always set
+pub AreBare-fixed : (fixed names free : List (List ℕ)) (settings : List Setting) (name : List ℕ) → AreBare fixed names free settings → is_among fixed name ≡ true → AreBare fixed (names ++ name ∷ []) free (settings ++ Fixed ∷ [])
+AreBare-fixed fixed names free settings name are is = record {
+  free_are = are.free_are ∙ sym (free-more fixed names name true is ∙ append-nil (free_among fixed names));
+  each = all_zipped_more (IsBareSetting fixed free) names settings name Fixed are.each is;
+}
+
+-- one option more
+pub AreBare-free : (fixed names free : List (List ℕ)) (settings : List Setting) (name : List ℕ) (option : OptionId) → AreBare fixed names free settings → is_among fixed name ≡ false → option.0 ≡ length free
+    → AreBare fixed (names ++ name ∷ []) (free ++ name ∷ []) (settings ++ Free option ∷ [])
+AreBare-free fixed names free settings name option are isnt number = record {
+  free_are = ap (λ ns. ns ++ name ∷ []) are.free_are ∙ sym (free-more fixed names name false isnt);
+  each = all_zipped_more (IsBareSetting fixed (free ++ name ∷ [])) names settings name (Free option) (AllBare-more fixed free (name ∷ []) names settings are.each)
+      (isnt, ap (slice_get (free ++ name ∷ [])) number ∙ slice_get-last free name);
+}
+
+-- the same for lists that are these
+pub AreBare-as : (fixed names free names_now free_now : List (List ℕ)) (settings settings_now : List Setting) → names_now ≡ names → free_now ≡ free → settings_now ≡ settings → AreBare fixed names free settings → AreBare fixed names_now free_now settings_now
+AreBare-as fixed names free names_now free_now settings settings_now same_names same_free same_settings are =
+    subst (λ (ns : List (List ℕ)). AreBare fixed ns free_now settings_now) (sym same_names)
+    (subst (λ (fs : List (List ℕ)). AreBare fixed names fs settings_now) (sym same_free)
+    (subst (λ (ss : List Setting). AreBare fixed names free ss) (sym same_settings) are))
+
+-- one name more, at its place
+pub next-name : (names : List (List ℕ)) (place : ℕ) (name : List ℕ) → slice_get names place ≡ Some name → take (place + 1) names ≡ take place names ++ name ∷ []
+next-name names place name held =
+    take_more names place [] (slice_get_within names place name held) ∙ ap (λ n. take place names ++ n ∷ []) (get_or_from_slice_get names place name [] held)
+
+-- each is what its setting says
+pub AreSettings-bare : (fixed names free : List (List ℕ)) (settings : List Setting) → AllZip (IsBareSetting fixed free) names settings → AreSettings fixed names (record { free = free; each = settings })
+AreSettings-bare fixed [] free [] each = tt
+AreSettings-bare fixed [] free (s ∷ settings) each = absurd each
+AreSettings-bare fixed (n ∷ names) free [] each = absurd each
+AreSettings-bare fixed (n ∷ names) free (Fixed ∷ settings) each = (each.0, AreSettings-bare fixed names free settings each.1)
+AreSettings-bare fixed (n ∷ names) free (Free option ∷ settings) each = (each.0, AreSettings-bare fixed names free settings each.1)
+AreSettings-bare fixed (n ∷ names) free (Unset ∷ settings) each = absurd each.0
+
+-- the options that settings name are there
+below-bare : (fixed free : List (List ℕ)) (name : List ℕ) (setting : Setting) → IsBareSetting fixed free name setting → IsBelow (length free) setting
+below-bare fixed free name Fixed is = tt
+below-bare fixed free name (Free option) is = slice_get_within free option.0 name is.1
+below-bare fixed free name Unset is = tt
+
+pub AllBelow-bare : (fixed names free : List (List ℕ)) (settings : List Setting) → AllZip (IsBareSetting fixed free) names settings → All (IsBelow (length free)) settings
+AllBelow-bare fixed [] free [] each = All-nil (IsBelow (length free))
+AllBelow-bare fixed [] free (s ∷ settings) each = absurd each
+AllBelow-bare fixed (n ∷ names) free [] each = absurd each
+AllBelow-bare fixed (n ∷ names) free (s ∷ settings) each =
+    All-cons (IsBelow (length free)) s settings (below-bare fixed free n s each.0) (AllBelow-bare fixed names free settings each.1)
+
+-- ---- what is always set, named otherwise
+
+module _ (fixed always : List (List ℕ)) (same : (name : List ℕ) → is_among fixed name ≡ is_among always name) where
+  IsSetting-alike : (free : List (List ℕ)) (name : List ℕ) (setting : Setting) → IsSetting fixed free name setting → IsSetting always free name setting
+  IsSetting-alike free name Fixed is = sym (same name) ∙ is
+  IsSetting-alike free name (Free option) is = (sym (same name) ∙ is.0, is.1)
+  IsSetting-alike free name Unset is = (sym (same name) ∙ is.0, is.1)
+
+  AllSettings-alike : (free names : List (List ℕ)) (settings : List Setting) → AllZip (IsSetting fixed free) names settings → AllZip (IsSetting always free) names settings
+  AllSettings-alike free [] [] each = tt
+  AllSettings-alike free [] (s ∷ settings) each = absurd each
+  AllSettings-alike free (n ∷ names) [] each = absurd each
+  AllSettings-alike free (n ∷ names) (s ∷ settings) each = (IsSetting-alike free n s each.0, AllSettings-alike free names settings each.1)
+
+  pub AreSettings-alike : (names : List (List ℕ)) (settings : Settings) → AreSettings fixed names settings → AreSettings always names settings
+  AreSettings-alike names settings are = AllSettings-alike settings.free names settings.each are
+
+  pub free_among-alike : (names : List (List ℕ)) → free_among fixed names ≡ free_among always names
+  free_among-alike names = filter_agree (λ name. not (is_among fixed name)) (λ name. not (is_among always name)) (λ name. ap not (same name)) names
+
+-- the names of a loaded document are those that its lines mention
+pub free-loaded : (always : List (List ℕ)) (text : List ℕ) (d : Document) → IsLoaded text d → free_among always d.names ≡ free_names always (flat_of text d)
+free-loaded always text d loaded =
+    ap (free_among always) (loaded.named ∙ ap each_once (sym (flat_map-map (λ line. names_in line.kind) (flat_line text d.files (rounds_of d)) d.lines)))
