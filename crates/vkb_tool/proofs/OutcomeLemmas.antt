@@ -1,41 +1,68 @@
--- What a file's first flaw and its verdict come to.
-use Rattle.std.proofs.Common.{inl, inr, ◌≡◌, ℕ, ◌≤◌, List, [], length, Option, Some, refl, sym, ap, ◌∙◌, subst, arith}
+-- What a check of a document comes to.
+use Rattle.std.proofs.Common.{inl, inr, ◌≡◌, ℕ, List, [], Option, Some, None, sym, ◌∙◌, subst}
+use Rattle.std.proofs.lemmas.Option.{none-some}
 use Rattle.vkb_outside.specs.Shelf.{Files}
-use Rattle.vkb_tool.specs.declared.answer.Answer.{Answer}
-use Rattle.vkb_tool.specs.declared.fault.Flaw.{Flaw}
-use Rattle.vkb_tool.specs.declared.status.Status.{Status}
+use Rattle.doc_tree.specs.Fault.{Fault as DocumentFault}
+use Rattle.doc_tree.specs.Flat.{FlatLine}
+use Rattle.doc_tree.specs.Sources.{AreSources, Sources}
+use Rattle.doc_tree.specs.Walk.{IsDocument, IsFaultOf, first_fault, taken, walk}
 use Rattle.vkb_tool.specs.declared.status.Status.TheVariants.{Refused}
-use Rattle.vkb_tool.specs.declared.verdict.Verdict.{Verdict}
 use Rattle.vkb_tool.specs.declared.words.Request.TheVariants.{Check}
-use Rattle.vkb_tool.specs.Answer.{effect_of}
-use Rattle.vkb_tool.specs.Conditions.{options_of}
-use Rattle.vkb_tool.specs.Fault.{fault_in}
-use Rattle.vkb_tool.specs.Judgement.{Judges}
-use Rattle.vkb_tool.specs.Lines.{lines_of}
-use Rattle.vkb_tool.specs.Outcome.{HasNoFault, IsFirstFlaw, IsFirstTextFlaw, Outcome, answers, most_bytes, refused, status_of}
-use Rattle.vkb_tool.specs.Report.{fault_line, report_of}
+use Rattle.vkb_tool.specs.Check.{TellsOf}
+use Rattle.vkb_tool.specs.Fault.{Fault, InDocument, NotBuilt, TooManyNames}
+use Rattle.vkb_tool.specs.Outcome.{Effect, HasNoFault, IsCheckFault, IsFaultIn, Outcome, checked, most_text, refused, writes_alone}
+use Rattle.vkb_tool.specs.Report.{document_fault_line}
 use Rattle.vkb_tool.specs.Words.{Spells}
 
--- an outcome told by an answer of the same status and output
-pub retold : (words : List (List ℕ)) (files : Files) (status : Status) (output : List ℕ) (answer : Answer) → answer.status ≡ status → answer.output ≡ output
-    → Outcome words files (record { status = status; output = output; puts = [] }) → Outcome words files (effect_of answer)
-retold words files status output answer same_status same_output outcome = rw (same_status, same_output) outcome
+-- each file has a source
+abbrev pub HaveSources : Type 0
+HaveSources = (files : Files) → (sources : Sources) × AreSources files sources
 
--- the first flaw of a file, told by an answer
-pub refusal : (words : List (List ℕ)) (files : Files) (root : List ℕ) (always : List (List ℕ)) (held : Option (List ℕ)) (flaw : Flaw) (answer : Answer) → Spells words (Check root always) → files root ≡ held → IsFirstFlaw always held flaw
-    → answer.status ≡ Refused → answer.output ≡ fault_line (fault_in root flaw) → Outcome words files (effect_of answer)
-refusal words files root always held found answer spelled is flawed status output =
-    retold words files Refused (fault_line (fault_in root found)) answer status output
-    (refused (Check root always) (fault_in root found) spelled (found, refl, subst (λ (bytes : Option (List ℕ)). IsFirstFlaw always bytes found) (sym is) flawed))
+-- the walk over these files has no fault, and these are its lines, whatever sources are true of the files
+abbrev pub IsWalked : Files → List ℕ → List FlatLine → Type 0
+IsWalked files root lines = (sources : Sources) → AreSources files sources → (first_fault sources most_text [] (walk sources root) ≡ None) × (lines ≡ taken (walk sources root))
 
--- no fault stands in a file whose lines have no flaw
-faultless : (files : Files) (root : List ℕ) (always : List (List ℕ)) (text : List ℕ) → files root ≡ Some text → length text ≤ most_bytes → ((flaw : Flaw) → ¬ IsFirstTextFlaw always (lines_of text) flaw) → HasNoFault (Check root always) files
-faultless files root always text held short none fault (found, same, is) =
-    elim (subst (λ (bytes : Option (List ℕ)). IsFirstFlaw always bytes found) held is) [ inl long ↦ let past = long.0 in omega arith | inr flawed ↦ none found flawed.1 ]
+-- a document that was walked
+walked_document : HaveSources → (files : Files) (root : List ℕ) (lines : List FlatLine) → IsWalked files root lines → IsDocument files most_text root lines
+walked_document have files root lines walked =
+    let found = have files in
+    let said = walked found.0 found.1 in
+    record { sources = found.0; are = found.1; faultless = said.0; lines_are = said.1 }
 
--- the verdict on a file without flaws, told by an answer
-pub judged : (words : List (List ℕ)) (files : Files) (root : List ℕ) (always : List (List ℕ)) (text : List ℕ) (options : List (List ℕ)) (verdict : Verdict) (answer : Answer) → Spells words (Check root always)
-    → files root ≡ Some text → length text ≤ most_bytes → Judges always (lines_of text) options verdict → answer.status ≡ status_of verdict → answer.output ≡ report_of root options verdict → Outcome words files (effect_of answer)
-judged words files root always text options verdict answer spelled held short is status output =
-    retold words files (status_of verdict) (report_of root (options_of always is.document.kinds) verdict) answer status (output ∙ ap (λ (names : List (List ℕ)). report_of root names verdict) is.options_are)
-    (answers root text always is.document verdict spelled (faultless files root always text held short is.flawless) held is.is is.verdict_is)
+-- a walked document is the only one
+same_lines : (files : Files) (root : List ℕ) (lines others : List FlatLine) → IsWalked files root lines → IsDocument files most_text root others → others ≡ lines
+same_lines files root lines others walked is = is.lines_are ∙ sym (walked is.sources is.are).1
+
+-- where a document is walked and no fault stands in its lines, none stands in what is asked
+pub faultless : (files : Files) (root : List ℕ) (always : List (List ℕ)) (lines : List FlatLine) → IsWalked files root lines → ((fault : Fault) → ¬ IsFaultIn always lines fault) → (fault : Fault) → ¬ IsCheckFault files root always fault
+faultless files root always lines walked none (InDocument fault) is = none-some fault (sym (walked is.sources is.are).0 ∙ is.first)
+faultless files root always lines walked none (NotBuilt file number) (others, is, stands) =
+    none (NotBuilt file number) (subst (λ (ls : List FlatLine). IsFaultIn always ls (NotBuilt file number)) (same_lines files root lines others walked is) stands)
+faultless files root always lines walked none (TooManyNames count) (others, is, stands) =
+    none (TooManyNames count) (subst (λ (ls : List FlatLine). IsFaultIn always ls (TooManyNames count)) (same_lines files root lines others walked is) stands)
+
+-- a fault in the lines of a document that was walked is one in what is asked
+pub fault_there : (files : Files) (root : List ℕ) (always : List (List ℕ)) (lines : List FlatLine) (fault : Fault) → IsDocument files most_text root lines → IsFaultIn always lines fault → IsCheckFault files root always fault
+fault_there files root always lines (InDocument fault) is stands = absurd stands
+fault_there files root always lines (NotBuilt file number) is stands = (lines, is, stands)
+fault_there files root always lines (TooManyNames count) is stands = (lines, is, stands)
+
+-- what is told of a document that was walked is what the words and the files come to
+pub told_outcome : HaveSources → (words : List (List ℕ)) (files : Files) (registry : Option (List ℕ)) (root api : List ℕ) (always : List (List ℕ)) (lines : List FlatLine) (effect : Effect)
+    → Spells words (Check registry root api always) → IsWalked files root lines → TellsOf always lines effect → Outcome words files effect
+told_outcome have words files registry root api always lines effect spelled walked (inl tells) =
+    let is = fault_there files root always lines tells.fault (walked_document have files root lines walked) tells.first in
+    subst (λ (e : Effect). Outcome words files e) (sym tells.told) (refused (Check registry root api always) tells.fault spelled is)
+told_outcome have words files registry root api always lines effect spelled walked (inr tells) =
+    let none : HasNoFault (Check registry root api always) files = faultless files root always lines walked tells.none in
+    subst (λ (e : Effect). Outcome words files e) (sym tells.told)
+    (checked registry root api always lines tells.verdict spelled none (walked_document have files root lines walked) tells.is)
+
+-- a fault of the walk, told, is what the words and the files come to
+pub refused_outcome : HaveSources → (words : List (List ℕ)) (files : Files) (registry : Option (List ℕ)) (root api : List ℕ) (always : List (List ℕ)) (fault : DocumentFault) (effect : Effect)
+    → Spells words (Check registry root api always) → ((sources : Sources) → AreSources files sources → first_fault sources most_text [] (walk sources root) ≡ Some fault)
+    → effect ≡ writes_alone Refused (document_fault_line fault) → Outcome words files effect
+refused_outcome have words files registry root api always fault effect spelled first told =
+    let found = have files in
+    let is : IsFaultOf files most_text root fault = record { sources = found.0; are = found.1; first = first found.0 found.1 } in
+    subst (λ (e : Effect). Outcome words files e) (sym told) (refused (Check registry root api always) (InDocument fault) spelled is)

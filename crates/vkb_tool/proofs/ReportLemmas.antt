@@ -1,7 +1,7 @@
 -- The chosen options, one option on.
 use Rattle.std.proofs.Common.{◌≡◌, ℕ, ◌+◌, ◌<◌, Bool, true, false, cond, List, [], ◌∷◌, ◌++◌, length, take, get_or, refl, sym, ap, ◌∙◌, arith}
 use Rattle.std.proofs.lemmas.List.{length-take-le, take_more}
-use Rattle.vkb_tool.specs.Conditions.{chosen_of}
+use Rattle.doc_build.specs.Choices.{chosen_of}
 
 chosen_of-push : (options : List (List ℕ)) (choice : List Bool) (name : List ℕ) (chosen : Bool) → length options ≡ length choice
     → chosen_of (options ++ name ∷ []) (choice ++ chosen ∷ []) ≡ chosen_of options choice ++ cond chosen (name ∷ []) []

@@ -21,6 +21,10 @@ no_word words i past = slice_get-map (λ w. w.items) words i ∙ ap (option_map 
 abbrev pub check_words : List ℕ → List (List ℕ) → List (List ℕ)
 check_words root always = codes "check" ∷ codes "-" ∷ root ∷ codes "-" ∷ map attribute_word always
 
+-- a check of a file over no registry
+abbrev check_request : List ℕ → List (List ℕ) → Request
+check_request root always = Check None root (codes "-") always
+
 pub is_name_a : IsFileName (97 ∷ [])
 unfolding lib.Utf8.encode
 is_name_a = record { some = λ e. cc; text = (97 ∷ [], (refl, refl)) }
@@ -46,7 +50,10 @@ record IsCheckOf (words : List (List ℕ)) : Type 0 where
 
 -- the words of a request are those of a check of some file
 spelled_at : (words : List (List ℕ)) (request : Request) → Spells words request → IsCheckOf words
-spelled_at words (Check root always) spelled = record { root = root; always = always; named = spelled.0; set = spelled.1; words_are = spelled.2 }
+spelled_at words (Check None root api always) spelled =
+    let words_are : words ≡ check_words root always = spelled.3 ∙ ap (λ (word : List ℕ). codes "check" ∷ codes "-" ∷ root ∷ word ∷ map attribute_word always) spelled.0 in
+    record { root = root; always = always; named = spelled.1; set = spelled.2; words_are = words_are }
+spelled_at words (Check (Some name) root api always) spelled = absurd spelled.0
 
 -- the first k words are those of a check, and the next one is that of none
 pub misplaced_at : (words : List (List ℕ)) (k : ℕ) (root : List ℕ) (always : List (List ℕ)) → IsFileName root → All IsAttribute always → k ≤ length words → take k words ≡ take k (check_words root always)
@@ -56,7 +63,7 @@ misplaced_at words k root always name set long front differs =
     record {
       from_one = omega arith;
       within = omega arith;
-      before = rw back (drop k (check_words root always), Check root always, (name, set, ap (λ (w : List (List ℕ)). w ++ drop k (check_words root always)) front ∙ take-append-drop k (check_words root always)));
+      before = rw back (drop k (check_words root always), check_request root always, (refl, name, set, ap (λ (w : List (List ℕ)). w ++ drop k (check_words root always)) front ∙ take-append-drop k (check_words root always)));
       here = λ fits begun.
           let inside : k < length words = omega arith in
           let spelled = spelled_at (take (k + 1) words ++ begun.0) begun.1 begun.2 in
@@ -157,9 +164,12 @@ same_attributes (name ∷ names) (other ∷ others) e =
 
 -- words ask for one request at most
 pub same_request : (words : List (List ℕ)) (request other : Request) → Spells words request → Spells words other → request ≡ other
-same_request words (Check root always) (Check name names) spelled also =
-    let both = sym spelled.2 ∙ also.2 in
+same_request words (Check None root api always) (Check None name word names) spelled also =
+    let both = sym spelled.3 ∙ also.3 in
     let same : root ≡ name = cc in
+    let apis : api ≡ word = spelled.0 ∙ sym also.0 in
     let rest : map attribute_word always ≡ map attribute_word names = cc in
     let set = same_attributes always names rest in
     cc
+same_request words (Check (Some file) root api always) other spelled also = absurd spelled.0
+same_request words (Check None root api always) (Check (Some file) name word names) spelled also = absurd also.0

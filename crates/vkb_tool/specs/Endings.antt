@@ -1,5 +1,5 @@
 -- How a run ends: what stands afterwards on the shelf and in the sink.
-use Rattle.std.specs.Prelude.{◌≡◌, ◌⊎◌, ℕ, ◌-◌, ◌^◌, ◌<◌, Option, Some, None, List, [], ◌∷◌, ◌++◌, MatchOption, ⊤, if◌then◌else◌}
+use Rattle.std.specs.Prelude.{◌≡◌, ◌≢◌, ◌⊎◌, ℕ, ◌-◌, ◌^◌, ◌<◌, Option, Some, None, List, [], ◌∷◌, ◌++◌, MatchOption, ⊤, if◌then◌else◌}
 use Rattle.std.specs.Str.{bytes_eq}
 use Rattle.vkb_outside.specs.Faults.{Rose}
 use Rattle.vkb_outside.specs.Shelf.{Files, ChangesAtMost}
@@ -44,13 +44,22 @@ IsUntouched old new = new.files ≡ old.files
 abbrev pub IsUnwritten : World → World → Type 0
 IsUnwritten old new = new.written ≡ old.written
 
+-- the files that a request names to be read first
+abbrev pub read_by : Request → List (List ℕ)
+read_by (Check None root api always) = root ∷ []
+read_by (Check (Some registry) root api always) = registry ∷ root ∷ []
+
+-- the files that a request names to be put
+abbrev pub put_by : Request → List (List ℕ)
+put_by (Check registry root api always) = []
+
 -- a request for which files are read from the shelf
 abbrev pub MayRead : Request → Type 0
-MayRead (Check root always) = ⊤
+MayRead request = read_by request ≢ []
 
 -- a request for which files are put on the shelf
 abbrev pub MayPut : Request → Type 0
-MayPut (Check root always) = ⊥
+MayPut request = put_by request ≢ []
 
 -- 1. The run was carried out: its output is appended, its puts are done in order, all other names stay, and no count rose.
 pub record Completes (words : List (List ℕ)) (files : Files) (status : Status) (old new : World) : Type 0 where

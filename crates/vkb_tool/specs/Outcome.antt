@@ -1,103 +1,64 @@
 -- What a run of the program comes to, of the words and the files.
-use Rattle.std.specs.Prelude.{◌≡◌, ◌⊎◌, ℕ, ◌+◌, ◌<◌, ◌≤◌, Bool, true, false, Option, Some, None, List, [], length, slice_get, IsTrue}
-use Rattle.std.specs.List.{AllZip}
+use Rattle.std.specs.Prelude.{◌≡◌, ℕ, ◌<◌, Bool, true, false, Option, Some, slice_get, List, [], length, All}
 use Rattle.vkb_outside.specs.Shelf.{Files}
-use Rattle.doc_cond.specs.declared.CondFault.{CondFault}
-use Rattle.doc_cond.specs.declared.CondFault.TheVariants as cond
 use Rattle.doc_cond.specs.declared.LineKind.{LineKind}
-use Rattle.doc_cond.specs.declared.LineKind.TheVariants.{Other, Chapter, Api, Validity, Refpage}
-use Rattle.doc_cond.specs.Lines.{IsBadCondition, IsKind, bare}
-use Rattle.doc_cond.specs.Nesting.{IsFirstFault as IsFirstNestingFault, kind_at}
+use Rattle.doc_cond.specs.declared.LineKind.TheVariants.{Refpage}
+use Rattle.doc_tree.specs.Flat.{FlatLine}
+use Rattle.doc_tree.specs.Walk.{IsDocument, IsFaultOf}
+use Rattle.doc_build.specs.Choices.{bare_setting, free_names}
+use Rattle.lift_check.specs.declared.Verdict.{Verdict}
+use Rattle.lift_check.specs.declared.Verdict.TheVariants.{Yes, No}
+use Rattle.lift_check.specs.Choices.{most_options}
+use Rattle.lift_check.specs.Verdict.{IsVerdict}
 use Rattle.vkb_tool.specs.declared.words.Request.{Request}
 use Rattle.vkb_tool.specs.declared.words.Request.TheVariants.{Check}
 use Rattle.vkb_tool.specs.declared.status.Status.{Status}
 use Rattle.vkb_tool.specs.declared.status.Status.TheVariants.{Done, Broken, Usage, Refused}
-use Rattle.vkb_tool.specs.declared.fault.Flaw.{Flaw}
-use Rattle.vkb_tool.specs.declared.fault.Flaw.TheVariants as flaw
-use Rattle.vkb_tool.specs.declared.verdict.Verdict.{Verdict}
-use Rattle.vkb_tool.specs.declared.verdict.Verdict.TheVariants.{Yes, No}
-use Rattle.vkb_tool.specs.Fault.{Fault, fault_in}
+use Rattle.vkb_tool.specs.Fault.{Fault, InDocument, NotBuilt, TooManyNames}
 use Rattle.vkb_tool.specs.Words.{Spells, IsMisplaced}
-use Rattle.vkb_tool.specs.Lines.{lines_of}
-use Rattle.vkb_tool.specs.Document.{Document, IsDocument}
-use Rattle.vkb_tool.specs.Conditions.{options_of}
-use Rattle.vkb_tool.specs.Verdict.{IsVerdict}
 use Rattle.vkb_tool.specs.Report.{usage_line, fault_line, report_of}
 
--- how many bytes a chapter's file may have
-abbrev pub most_bytes : ℕ
-most_bytes = 16777216
+-- how many bytes all texts of a call may have
+abbrev pub most_text : ℕ
+most_text = 268435456
 
--- how many options may be tried
-abbrev pub most_options : ℕ
-most_options = 12
+-- the kinds of lines that aren't built yet: those that set `refpage`
+abbrev pub is_unbuilt : LineKind → Bool
+is_unbuilt (Refpage name) = true
+is_unbuilt _ = false
 
--- the number, from 1, of the first place that passes
-pub record IsFirstLine (Passes : ℕ → Type 0) (number : ℕ) : Type 0 where
+-- the line is the first of a document whose form isn't built yet
+pub record IsFirstUnbuilt (lines : List FlatLine) (line : FlatLine) : Type 0 where
   pub place : ℕ
-  pub numbered : number ≡ place + 1
-  pub here : Passes place
-  pub first : (before : ℕ) → before < place → ¬ Passes before
+  pub here : slice_get lines place ≡ Some line
+  pub unbuilt : is_unbuilt line.kind ≡ true
+  pub first : (before : ℕ) (other : FlatLine) → before < place → slice_get lines before ≡ Some other → is_unbuilt other.kind ≡ false
 
--- the line at a place begins as a conditional and is none
-abbrev pub IsBadAt : List (List ℕ) → ℕ → Type 0
-IsBadAt lines place = (line : List ℕ) × (slice_get lines place ≡ Some line) × IsBadCondition (bare line)
+-- lines whose forms are all built
+abbrev pub AreBuilt : List FlatLine → Type 0
+AreBuilt lines = All (λ line. is_unbuilt line.kind ≡ false) lines
 
--- the kinds of lines that the program doesn't follow yet: includes, and the lines that set `refpage`
-abbrev pub is_unfollowed : LineKind → Bool
-is_unfollowed Other = true
-is_unfollowed (Chapter file) = true
-is_unfollowed (Api name) = true
-is_unfollowed (Validity name) = true
-is_unfollowed (Refpage name) = true
-is_unfollowed _ = false
-
--- the line at a place is of such a kind
-abbrev pub IsUnfollowedAt : List LineKind → ℕ → Type 0
-IsUnfollowedAt kinds place = IsTrue (is_unfollowed (kind_at kinds place))
-
--- The conditionals of the lines are ill nested, or more than 64 are open at once: the first such fault is this one, at the
--- line of a number from 1. The fault is one of the two that tell a line.
-pub record IsNestedWrongly (lines : List (List ℕ)) (fault : ℕ → CondFault) (number : ℕ) : Type 0 where
-  pub kinds : List LineKind
-  pub kinds_are : AllZip IsKind lines kinds
-  pub place : ℕ
-  pub numbered : number ≡ place + 1
-  pub is : IsFirstNestingFault kinds (fault place)
-
--- the lines make up a document, and its first line of a form that isn't built is that of a number from 1
-pub record HasUnfollowed (lines : List (List ℕ)) (number : ℕ) : Type 0 where
-  pub document : Document
-  pub is : IsDocument lines document
-  pub unfollowed : IsFirstLine (IsUnfollowedAt document.kinds) number
-
--- the lines make up a document of forms that are built alone, and it has so many options, which are too many
-pub record HasTooManyOptions (always lines : List (List ℕ)) (count : ℕ) : Type 0 where
-  pub document : Document
-  pub is : IsDocument lines document
-  pub followed : (place : ℕ) → ¬ IsUnfollowedAt document.kinds place
-  pub counted : count ≡ length (options_of always document.kinds)
+-- the options are too many: so many
+pub record AreTooMany (options : List (List ℕ)) (count : ℕ) : Type 0 where
+  pub counted : count ≡ length options
   pub many : most_options < count
 
--- The first flaw of lines, where some names are always set: a line that is ill spelled goes before conditionals that are ill
--- nested or too deep, these before lines of a form that isn't built, and these before options that are too many.
-abbrev pub IsFirstTextFlaw : List (List ℕ) → List (List ℕ) → Flaw → Type 0
-IsFirstTextFlaw always lines flaw.Missing = ⊥
-IsFirstTextFlaw always lines flaw.TooLarge = ⊥
-IsFirstTextFlaw always lines (flaw.BadCondition number) = IsFirstLine (IsBadAt lines) number
-IsFirstTextFlaw always lines (flaw.Unbalanced number) = IsNestedWrongly lines cond.Unbalanced number
-IsFirstTextFlaw always lines (flaw.CondDepth number) = IsNestedWrongly lines cond.CondDepth number
-IsFirstTextFlaw always lines (flaw.NotBuilt number) = HasUnfollowed lines number
-IsFirstTextFlaw always lines (flaw.TooManyNames count) = HasTooManyOptions always lines count
+-- the first fault of a document whose walk has none, where some names are always set: a line of a form that isn't built goes before
+-- options that are too many
+abbrev pub IsFaultIn : List (List ℕ) → List FlatLine → Fault → Type 0
+IsFaultIn always lines (InDocument fault) = ⊥
+IsFaultIn always lines (NotBuilt file number) = (line : FlatLine) × IsFirstUnbuilt lines line × (file ≡ line.file) × (number ≡ line.number)
+IsFaultIn always lines (TooManyNames count) = AreBuilt lines × AreTooMany (free_names always lines) count
 
--- the first flaw of a chapter's file, of which the shelf has nothing or these bytes
-abbrev pub IsFirstFlaw : List (List ℕ) → Option (List ℕ) → Flaw → Type 0
-IsFirstFlaw always None found = found ≡ flaw.Missing
-IsFirstFlaw always (Some bytes) found = ((most_bytes < length bytes) × (found ≡ flaw.TooLarge)) ⊎ ((length bytes ≤ most_bytes) × IsFirstTextFlaw always (lines_of bytes) found)
+-- a fault of the document of a root, where some names are always set: those of the walk go first
+abbrev pub IsCheckFault : Files → List ℕ → List (List ℕ) → Fault → Type 0
+IsCheckFault files root always (InDocument fault) = IsFaultOf files most_text root fault
+IsCheckFault files root always (NotBuilt file number) = (lines : List FlatLine) × IsDocument files most_text root lines × IsFaultIn always lines (NotBuilt file number)
+IsCheckFault files root always (TooManyNames count) = (lines : List FlatLine) × IsDocument files most_text root lines × IsFaultIn always lines (TooManyNames count)
 
 -- the first named fault that stands in what a request asks of the files
 abbrev pub IsFirstFault : Request → Files → Fault → Type 0
-IsFirstFault (Check root always) files fault = (found : Flaw) × (fault ≡ fault_in root found) × IsFirstFlaw always (files root) found
+IsFirstFault (Check registry root api always) files fault = IsCheckFault files root always fault
 
 -- no named fault stands in what a request asks of the files
 abbrev pub HasNoFault : Request → Files → Type 0
@@ -118,14 +79,18 @@ pub record Effect : Type 0 where
   pub output : List ℕ
   pub puts : List Put
 
--- What the words and the files come to. Only the choice that a `no` names is left open.
+-- an output, and no file that is put
+abbrev pub writes_alone : Status → List ℕ → Effect
+writes_alone status output = record { status = status; output = output; puts = [] }
+
+-- What the words and the files come to. Only the choice that a `no` names is left open, and with it the id and the count there.
 pub data Outcome (words : List (List ℕ)) (files : Files) : Effect → Type 0 where
   -- the words are no request
-  misplaced : (position : ℕ) → IsMisplaced words position → Outcome words files (record { status = Usage; output = usage_line position; puts = [] })
+  misplaced : (position : ℕ) → IsMisplaced words position → Outcome words files (writes_alone Usage (usage_line position))
   -- a fault stands in what is asked; the first one is told
-  refused : (request : Request) (fault : Fault) → Spells words request → IsFirstFault request files fault
-      → Outcome words files (record { status = Refused; output = fault_line fault; puts = [] })
-  -- the verdict on a file without a fault: yes, or the first link that some permitted choice breaks
-  answers : (root bytes : List ℕ) (always : List (List ℕ)) (d : Document) (verdict : Verdict) → Spells words (Check root always) → HasNoFault (Check root always) files
-      → files root ≡ Some bytes → IsDocument (lines_of bytes) d → IsVerdict always d verdict
-      → Outcome words files (record { status = status_of verdict; output = report_of root (options_of always d.kinds) verdict; puts = [] })
+  refused : (request : Request) (fault : Fault) → Spells words request → IsFirstFault request files fault → Outcome words files (writes_alone Refused (fault_line fault))
+  -- the verdict on a document without a fault: yes, or the first link that some permitted choice breaks
+  checked : (registry : Option (List ℕ)) (root api : List ℕ) (always : List (List ℕ)) (lines : List FlatLine) (verdict : Verdict)
+      → Spells words (Check registry root api always) → HasNoFault (Check registry root api always) files
+      → IsDocument files most_text root lines → IsVerdict (bare_setting always lines) lines verdict
+      → Outcome words files (writes_alone (status_of verdict) (report_of lines (bare_setting always lines).options verdict))

@@ -1,11 +1,13 @@
 -- The text of reports and fault lines. Numbers are decimal, and each line ends in a line feed.
-use Rattle.std.specs.Prelude.{◌≡◌, ℕ, ◌+◌, ◌==◌, List, [], ◌∷◌, ◌++◌, codes, decimal, if◌then◌else◌}
+use Rattle.std.specs.Prelude.{◌≡◌, ℕ, ◌+◌, ◌==◌, Option, Some, None, List, [], ◌∷◌, ◌++◌, codes, decimal, slice_get, if◌then◌else◌}
 use Rattle.std.specs.List.{flat_map}
-use Rattle.vkb_tool.specs.declared.verdict.Place.{Place}
-use Rattle.vkb_tool.specs.declared.verdict.Verdict.{Verdict}
-use Rattle.vkb_tool.specs.declared.verdict.Verdict.TheVariants.{Yes, No}
-use Rattle.vkb_tool.specs.Conditions.{chosen_of}
-use Rattle.vkb_tool.specs.Fault.{Fault, Missing, TooLarge, BadCondition, Unbalanced, CondDepth, NotBuilt, TooManyNames}
+use Rattle.doc_tree.specs.Fault as document
+use Rattle.doc_tree.specs.Flat.{FlatLine}
+use Rattle.doc_build.specs.declared.Place.{Place}
+use Rattle.doc_build.specs.Choices.{chosen_of}
+use Rattle.lift_check.specs.declared.Verdict.{Verdict}
+use Rattle.lift_check.specs.declared.Verdict.TheVariants.{Yes, No}
+use Rattle.vkb_tool.specs.Fault.{Fault, InDocument, NotBuilt, TooManyNames}
 
 -- what a line of a report ends in
 abbrev pub line_feed : List ℕ
@@ -19,22 +21,31 @@ usage_line position = codes "usage " ++ decimal position ++ line_feed
 abbrev pub statement_text : ℕ → List ℕ
 statement_text statement = if statement == 0 then [] else codes "/" ++ decimal statement
 
--- a place: the file, the line with the statement, and the column; lines and columns count from 1
-abbrev pub place_text : List ℕ → Place → List ℕ
-place_text file place = file ++ codes ":" ++ decimal (place.line + 1) ++ statement_text place.statement ++ codes ":" ++ decimal (place.at + 1)
+-- what follows the name of a file in a place: the line's number with the statement, and the column; columns count from 1
+abbrev pub spot_in : ℕ → ℕ → ℕ → List ℕ
+spot_in number statement at = codes ":" ++ decimal number ++ statement_text statement ++ codes ":" ++ decimal (at + 1)
+
+-- a place in the line of a document that stands there
+abbrev pub place_in : Option FlatLine → Place → List ℕ
+place_in None place = []
+place_in (Some line) place = line.file ++ spot_in line.number place.statement place.at
+
+-- a place in a document
+abbrev pub place_text : List FlatLine → Place → List ℕ
+place_text lines place = place_in (slice_get lines place.line) place
 
 -- the line for a chosen option
 abbrev pub with_line : List ℕ → List ℕ
 with_line name = codes "with " ++ name ++ line_feed
 
 -- the lines on a link that hasn't exactly one anchor
-abbrev pub broken_lines : List ℕ → Place → List ℕ → ℕ → List ℕ
-broken_lines file place id count = codes "no " ++ place_text file place ++ line_feed ++ id ++ codes " " ++ decimal count ++ line_feed
+abbrev pub broken_lines : List FlatLine → Place → List ℕ → ℕ → List ℕ
+broken_lines lines place id count = codes "no " ++ place_text lines place ++ line_feed ++ id ++ codes " " ++ decimal count ++ line_feed
 
--- the report of a verdict on a file, by the names of the options
-abbrev pub report_of : List ℕ → List (List ℕ) → Verdict → List ℕ
-report_of file options (Yes links) = codes "yes " ++ decimal links ++ line_feed
-report_of file options (No place id choice count) = broken_lines file place id count ++ flat_map with_line (chosen_of options choice)
+-- the report of a verdict on a document, by the names of the options
+abbrev pub report_of : List FlatLine → List (List ℕ) → Verdict → List ℕ
+report_of lines options (Yes links) = codes "yes " ++ decimal links ++ line_feed
+report_of lines options (No place id choice count) = broken_lines lines place id count ++ flat_map with_line (chosen_of options choice)
 
 -- the line of a fault of a file, by the code of the fault
 abbrev pub file_fault_line : List ℕ → List ℕ → List ℕ
@@ -44,16 +55,23 @@ file_fault_line code file = codes "refused " ++ code ++ codes " " ++ file ++ lin
 abbrev pub line_fault_line : List ℕ → List ℕ → ℕ → List ℕ
 line_fault_line code file line = codes "refused " ++ code ++ codes " " ++ file ++ codes ":" ++ decimal line ++ line_feed
 
+-- the line of a fault of a document
+abbrev pub document_fault_line : document.Fault → List ℕ
+document_fault_line (document.Missing file) = file_fault_line (codes "Missing") file
+document_fault_line (document.TooLarge file) = file_fault_line (codes "TooLarge") file
+document_fault_line (document.IncludeDepth file line) = line_fault_line (codes "IncludeDepth") file line
+document_fault_line (document.DocTooLong file line) = line_fault_line (codes "DocTooLong") file line
+document_fault_line (document.NameLimit file line) = line_fault_line (codes "NameLimit") file line
+document_fault_line (document.BadCondition file line) = line_fault_line (codes "BadCondition") file line
+document_fault_line (document.Unbalanced file line) = line_fault_line (codes "Unbalanced") file line
+document_fault_line (document.CondDepth file line) = line_fault_line (codes "CondDepth") file line
+
 -- the line of a fault
 abbrev pub fault_line : Fault → List ℕ
-fault_line (Missing file) = file_fault_line (codes "Missing") file
-fault_line (TooLarge file) = file_fault_line (codes "TooLarge") file
-fault_line (BadCondition file line) = line_fault_line (codes "BadCondition") file line
-fault_line (Unbalanced file line) = line_fault_line (codes "Unbalanced") file line
-fault_line (CondDepth file line) = line_fault_line (codes "CondDepth") file line
+fault_line (InDocument fault) = document_fault_line fault
 fault_line (NotBuilt file line) = line_fault_line (codes "NotBuilt") file line
 fault_line (TooManyNames count) = codes "refused TooManyNames " ++ decimal count ++ line_feed
 
--- the output is a report that names this link of a file as broken, with some count and some choice
-abbrev pub NamesLink : List ℕ → List ℕ → Place → List ℕ → Type 0
-NamesLink output file place id = (count : ℕ) × (chosen : List ℕ) × (output ≡ broken_lines file place id count ++ chosen)
+-- the output is a report that names this place of a document as broken, with some id, some count and some choice
+abbrev pub NamesPlace : List ℕ → List FlatLine → Place → Type 0
+NamesPlace output lines place = (id : List ℕ) × (count : ℕ) × (chosen : List ℕ) × (output ≡ broken_lines lines place id count ++ chosen)

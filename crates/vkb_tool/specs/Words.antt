@@ -1,5 +1,5 @@
 -- The words of a request, and where words that are none stop being the words of one.
-use Rattle.std.specs.Prelude.{◌≡◌, ◌≢◌, ℕ, ◌+◌, ◌-◌, ◌≤◌, List, [], ◌∷◌, ◌++◌, length, take, map, codes, Vec, ⊤, All, IsTrue}
+use Rattle.std.specs.Prelude.{◌≡◌, ◌≢◌, ℕ, ◌+◌, ◌-◌, ◌≤◌, List, [], ◌∷◌, ◌++◌, length, take, map, codes, Option, Some, None, Vec, ⊤, All, IsTrue}
 use Rattle.std.specs.declared.alloc.Global.{Global}
 use Rattle.std.specs.Str.{IsUtf8}
 use Rattle.doc_cond.specs.Lines.{is_name_byte, is_run}
@@ -21,9 +21,20 @@ IsAttribute name = IsTrue (is_run is_name_byte name)
 abbrev pub attribute_word : List ℕ → List ℕ
 attribute_word name = codes "+" ++ name
 
+-- the word of a registry's file, or a `-` for none
+abbrev pub registry_word : Option (List ℕ) → List ℕ
+registry_word None = codes "-"
+registry_word (Some name) = name
+
+-- an API goes with a registry, and a `-` with none; no request names a registry yet
+abbrev pub IsApiOf : Option (List ℕ) → List ℕ → Type 0
+IsApiOf None api = api ≡ codes "-"
+IsApiOf (Some name) api = ⊥
+
 -- the words that ask for a request
 abbrev pub Spells : List (List ℕ) → Request → Type 0
-Spells words (Check root always) = IsFileName root × All IsAttribute always × (words ≡ codes "check" ∷ codes "-" ∷ root ∷ codes "-" ∷ map attribute_word always)
+Spells words (Check registry root api always) = IsApiOf registry api × IsFileName root × All IsAttribute always
+    × (words ≡ codes "check" ∷ registry_word registry ∷ root ∷ api ∷ map attribute_word always)
 
 -- some request begins with these words
 abbrev pub IsFront : List (List ℕ) → Type 0

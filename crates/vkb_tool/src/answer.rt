@@ -1,6 +1,6 @@
-ghost use Rattle.std.specs.Prelude.{◌≡◌, ◌^◌, ◌<◌, length, IfOk, IfSome};
-ghost use Rattle.vkb_tool.specs.Answer.{AnswersWords, CountsReading, IsAskedFor, Delivers, effect_of};
-ghost use Rattle.vkb_tool.specs.Outcome.{Outcome};
+ghost use Rattle.std.specs.Prelude.{◌≡◌, ◌^◌, ◌<◌, [], length, map, IfOk, IfSome};
+ghost use Rattle.vkb_tool.specs.Answer.{AnswersWords, AreHeld, CountsReading, Delivers, IsAskedFor, PutsAll, effect_of, put_of};
+ghost use Rattle.vkb_tool.specs.Outcome.{Outcome, writes_alone};
 ghost use Rattle.vkb_tool.specs.Report.{usage_line};
 ghost use Rattle.vkb_tool.specs.Words.{items_of};
 
@@ -9,14 +9,22 @@ use crate::report::usage_text;
 use crate::words::{Request, WordFault, read_words};
 use crate::{Memory, Status};
 use std::alloc::Global;
-use vkb_bytes::Bytes;
-use vkb_outside::{Shelf, Sink};
+use vkb_bytes::{Bytes, Listed, Text};
+use vkb_outside::{PutTrouble, Shelf, Sink};
 
-/// What a run comes to before it is written: its status and its whole output.
+/// A file that is put in the place of one that is held.
+#[derive(Debug, Drop)]
+pub struct FilePut {
+    pub name: Text,
+    pub bytes: Bytes,
+}
+
+/// What a run comes to before anything is put or written: its status, its whole output, and the files that it puts, in order.
 #[derive(Debug, Drop)]
 pub struct Answer {
     pub status: Status,
     pub output: Bytes,
+    pub puts: Listed<FilePut>,
 }
 
 /// Why there is no answer.
@@ -38,7 +46,18 @@ impl From<Memory> for Trouble {
     }
 }
 
-/// Answers the words by what the shelf holds, and puts nothing.
+/// An answer that puts nothing.
+pub fn written(alloc: Global, status: Status, output: Vec<u8>) -> Answer
+    ensures { effect_of result ≡ writes_alone status output.items }
+{
+    Answer {
+        status,
+        output: Bytes::from_vec(output),
+        puts: Listed::from_vec(Vec::new(alloc)),
+    }
+}
+
+/// Answers the words by what the shelf holds, and changes nothing.
 pub fn answer_words<S: Shelf>(
     alloc: Global,
     words: &[Vec<u8>],
@@ -47,18 +66,21 @@ pub fn answer_words<S: Shelf>(
     requires { length words.now < 2 ^ 32 }
     ensures outcome { IfOk result (λ answer. IfSome (S.holds shelf.old) (λ files. Outcome (items_of words.now) files (effect_of answer))) }
     ensures words { IfOk result (AnswersWords (items_of words.now)) }
+    ensures held { IfOk result (λ answer. AreHeld (S.holds shelf.old) (effect_of answer).puts) }
     ensures asked { IsAskedFor (items_of words.now) result }
     ensures counted { CountsReading (S.read_faults shelf.old) (S.read_faults shelf.new) result }
-    ensures held { S.holds shelf.new ≡ S.holds shelf.old }
+    ensures kept { S.holds shelf.new ≡ S.holds shelf.old }
     ensures puts { S.put_faults shelf.new ≡ S.put_faults shelf.old }
 {
     match read_words(alloc, words) {
-        Ok(Request::Check { root, always }) => check(
-            alloc,
-            shelf,
-            root.as_str(),
-            always.as_slice(),
-        ),
+        Ok(
+            Request::Check {
+                registry: _registry,
+                root,
+                api: _api,
+                always,
+            },
+        ) => check(alloc, shelf, root.as_str(), always.as_slice()),
         Err(WordFault::Usage { position }) => Ok(misplaced(alloc, position)?),
         Err(WordFault::Memory) => Err(Trouble::NoMemory),
     }
@@ -66,25 +88,50 @@ pub fn answer_words<S: Shelf>(
 
 /// The answer to words that are no request.
 fn misplaced(alloc: Global, position: u32) -> Result<Answer, Memory>
-    ensures status { IfOk result (λ answer. answer.status ≡ Status.Usage) }
-    ensures output { IfOk result (λ answer. answer.output ≡ usage_line position) }
+    ensures { IfOk result (λ answer. effect_of answer ≡ writes_alone Status.Usage (usage_line position)) }
 {
-    Ok(Answer {
-        status: Status::Usage,
-        output: Bytes::from_vec(usage_text(alloc, position)?),
-    })
+    let output = usage_text(alloc, position)?;
+    Ok(written(alloc, Status::Usage, output))
 }
 
-/// Writes an answer, and gives its status where that is done.
-pub fn deliver<K: Sink>(answer: &Answer, out: &mut K) -> Status
-    ensures { Delivers answer.now result (K.written out.old) (K.written out.new) (K.faults out.old) (K.faults out.new) }
+/// Puts the files of an answer and then writes its output, and gives its status where that is done. It takes memory before the
+/// first put alone.
+pub fn deliver<S: Shelf, K: Sink>(answer: Answer, shelf: &mut S, out: &mut K) -> Status
+    requires { AreHeld (S.holds shelf.old) (effect_of answer).puts }
+    ensures { Delivers (effect_of answer) result
+        (record { files = S.holds shelf.old; written = K.written out.old; read_faults = S.read_faults shelf.old; put_faults = S.put_faults shelf.old; write_faults = K.faults out.old })
+        (record { files = S.holds shelf.new; written = K.written out.new; read_faults = S.read_faults shelf.new; put_faults = S.put_faults shelf.new; write_faults = K.faults out.new }) }
 {
-    let output = answer.output.as_slice();
+    let Answer {
+        status,
+        output,
+        puts,
+    } = answer;
+    let output = output.as_slice();
     if out.ready(output.len()).is_err() {
         return Status::Memory;
     }
+    if put_all(shelf, puts.into_vec()).is_err() {
+        return Status::WriteFault;
+    }
     match out.write(output) {
-        Ok(()) => answer.status,
+        Ok(()) => status,
         Err(_) => Status::WriteFault,
     }
 }
+
+/// Puts files in order, up to the first put that fails.
+fn put_all<S: Shelf>(shelf: &mut S, puts: Vec<FilePut>) -> Result<(), PutTrouble>
+    requires { AreHeld (S.holds shelf.old) (map put_of puts.items) }
+    ensures put { PutsAll (map put_of puts.items) result (S.holds shelf.old) (S.holds shelf.new) (S.put_faults shelf.old) (S.put_faults shelf.new) }
+    ensures reads { S.read_faults shelf.new ≡ S.read_faults shelf.old }
+{
+    for put in puts {
+        let FilePut { name, bytes } = put;
+        shelf.put(name.as_str(), bytes.into_vec())?;
+    }
+    Ok(())
+}
+
+#[cfg(test)]
+mod tests;

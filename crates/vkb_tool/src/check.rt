@@ -1,84 +1,108 @@
-ghost use Rattle.std.specs.Prelude.{◌≡◌, ◌≤◌, List, ℕ, Some, length, IfOk, IfSome};
-ghost use Rattle.vkb_outside.specs.Shelf.{Files};
+//! The command `check`: a verdict on the links of a document.
+ghost use Rattle.std.specs.Prelude.{◌≡◌, List, ℕ, [], Some, Option, position, IfErr, IfOk, IfSome};
+ghost use Rattle.doc_tree.specs.Answer.{told_of};
+ghost use Rattle.doc_tree.specs.Fault.{Fault as DocumentFault};
+ghost use Rattle.doc_tree.specs.Loaded.{IsLoaded, flat_of};
 ghost use Rattle.vkb_tool.specs.Answer.{CountsReading, IsRequestStatus, effect_of};
-ghost use Rattle.vkb_tool.specs.Fault.{fault_in};
-ghost use Rattle.vkb_tool.specs.Judgement.{NamesChoice};
-ghost use Rattle.vkb_tool.specs.Outcome.{most_bytes, status_of, Outcome};
-ghost use Rattle.vkb_tool.specs.Report.{fault_line, report_of};
+ghost use Rattle.vkb_tool.specs.Check.{IsTroubleOf, TellsOf};
+ghost use Rattle.vkb_tool.specs.Outcome.{Outcome, is_unbuilt, status_of, writes_alone};
+ghost use Rattle.vkb_tool.specs.Report.{document_fault_line};
 ghost use Rattle.vkb_tool.specs.Words.{Spells};
 
-use crate::answer::{Answer, Trouble};
-use crate::fault::Flaw;
-use crate::obstacle::Obstacle;
-use crate::report::{fault_text, report};
-use crate::verdict::{Judgement, Verdict, judge_text};
+use crate::answer::{Answer, Trouble, written};
+use crate::report::{document_fault_text, not_built_text, report, too_many_text};
 use crate::{Memory, Request, Status};
+use doc_build::marks_in_lines;
+use doc_cond::LineKind;
+use doc_tree::{DocFault, Document, files_have_sources, load};
+use lift_check::{Verdict, read_options, try_choices};
 use std::alloc::Global;
 use vkb_bytes::Bytes;
-use vkb_outside::{ReadTrouble, Shelf};
+use vkb_outside::Shelf;
+use vkb_text::Text;
 
-/// How many bytes a chapter's file may have.
-const MOST_BYTES: u32 = 16_777_216;
+/// How many bytes all texts of a call may have.
+const MOST_TEXT: u32 = 268_435_456;
 
-/// Answers a check of a file that the shelf holds, where some names of conditions are always set.
+/// How many options may be tried.
+const MOST_OPTIONS: u32 = 12;
+
+/// Answers a check of the document of a root that the shelf holds, over no registry, where some names of conditions are always
+/// set.
 pub fn check<S: Shelf>(
     alloc: Global,
     shelf: &mut S,
     root: &str,
     always: &[Bytes],
 ) -> Result<Answer, Trouble>
-    ensures outcome { IfOk result (λ answer. IfSome (S.holds shelf.old) (λ files. (words : List (List ℕ)) → Spells words (Request.Check root.now always.now) → Outcome words files (effect_of answer))) }
+    ensures outcome { IfOk result (λ answer. IfSome (S.holds shelf.old) (λ files. (words : List (List ℕ)) (registry : Option (List ℕ)) (api : List ℕ) → Spells words (Request.Check registry root.now api always.now) → Outcome words files (effect_of answer))) }
     ensures status { IfOk result (λ answer. IsRequestStatus answer.status) }
+    ensures unput { IfOk result (λ answer. answer.puts ≡ []) }
     ensures counted { CountsReading (S.read_faults shelf.old) (S.read_faults shelf.new) result }
-    ensures held { S.holds shelf.new ≡ S.holds shelf.old }
+    ensures kept { S.holds shelf.new ≡ S.holds shelf.old }
     ensures puts { S.put_faults shelf.new ≡ S.put_faults shelf.old }
 {
-    match shelf.read(alloc, root, MOST_BYTES) {
-        Ok(Some(text)) => Ok(judge(alloc, root, always, &text)?),
-        Ok(None) => Ok(refuse(alloc, root, Flaw::Missing)?),
-        Err(ReadTrouble::TooLong) => Ok(refuse(alloc, root, Flaw::TooLarge)?),
-        Err(ReadTrouble::Failed) => Err(Trouble::ReadFailed),
-        Err(ReadTrouble::Memory) => Err(Trouble::NoMemory),
+    // Something is found under each name, so that the definitions speak of these files.
+    files_have_sources();
+    let mut text = Text::new(alloc, MOST_TEXT);
+    match load(alloc, shelf, &mut text, root) {
+        Ok(document) => Ok(tell(alloc, &text, &document, always)?),
+        Err(fault) => refuse(alloc, &fault),
     }
 }
 
-/// The answer to a check of a text.
-fn judge(alloc: Global, root: &str, always: &[Bytes], text: &[u8]) -> Result<Answer, Memory>
-    requires { length text.now ≤ most_bytes }
-    ensures outcome { IfOk result (λ answer. (words : List (List ℕ)) (files : Files) → Spells words (Request.Check root.now always.now) → files root.now ≡ Some text.now → Outcome words files (effect_of answer)) }
+/// What is told of a document whose walk has no fault: its first line that isn't built, options that are too many, or the verdict.
+fn tell(alloc: Global, text: &Text, document: &Document, always: &[Bytes]) -> Result<Answer, Memory>
+    requires { IsLoaded text.now.bytes document.now }
+    ensures told { IfOk result (λ answer. TellsOf always.now (flat_of text.now.bytes document.now) (effect_of answer)) }
     ensures status { IfOk result (λ answer. IsRequestStatus answer.status) }
+    ensures unput { IfOk result (λ answer. answer.puts ≡ []) }
 {
-    match judge_text(alloc, text, always) {
-        Ok(judgement) => tell(alloc, root, &judgement),
-        Err(Obstacle::Flawed(flaw)) => refuse(alloc, root, flaw),
-        Err(Obstacle::NoMemory) => Err(Memory),
+    if let Some(line) = first_unbuilt(document) {
+        let output = not_built_text(alloc, document, line)?;
+        return Ok(written(alloc, Status::Refused, output));
     }
+    let options = read_options(alloc, document, always)?;
+    let count = options.len();
+    if count > MOST_OPTIONS {
+        let output = too_many_text(alloc, count)?;
+        return Ok(written(alloc, Status::Refused, output));
+    }
+    // The link that a verdict names is in a line of the document.
+    marks_in_lines();
+    let verdict = try_choices(alloc, text, document, &options)?;
+    let output = report(alloc, document, &options, &verdict)?;
+    Ok(written(alloc, status_by(&verdict), output))
 }
 
-/// The answer to a check that was carried out.
-fn tell(alloc: Global, root: &str, judgement: &Judgement) -> Result<Answer, Memory>
-    requires { NamesChoice judgement.now.options.free judgement.now.verdict }
-    ensures status { IfOk result (λ answer. answer.status ≡ status_of judgement.now.verdict) }
-    ensures output { IfOk result (λ answer. answer.output ≡ report_of root.now judgement.now.options.free judgement.now.verdict) }
+/// The place of the first line whose form isn't built yet: one that sets `refpage`.
+fn first_unbuilt(document: &Document) -> Option<usize>
+    ensures { result ≡ position (λ line. is_unbuilt line.kind) document.now.lines }
 {
-    let status = match &judgement.verdict {
+    document
+        .lines
+        .as_slice()
+        .iter()
+        .position(|line| matches!(line.kind, LineKind::Refpage { .. }))
+}
+
+/// The status by which a verdict is told.
+fn status_by(verdict: &Verdict) -> Status
+    ensures { result ≡ status_of verdict.now }
+{
+    match verdict {
         Verdict::Yes { .. } => Status::Done,
         Verdict::No { .. } => Status::Broken,
-    };
-    let output = report(alloc, root, &judgement.options, &judgement.verdict)?;
-    Ok(Answer {
-        status,
-        output: Bytes::from_vec(output),
-    })
+    }
 }
 
-/// The answer to a request in which a fault stands.
-fn refuse(alloc: Global, file: &str, flaw: Flaw) -> Result<Answer, Memory>
+/// The answer to a request in whose document a fault stands. A failed read and want of memory have none.
+fn refuse(alloc: Global, fault: &DocFault) -> Result<Answer, Trouble>
+    ensures told { IfOk result (λ answer. (named : DocumentFault) × (told_of fault.now ≡ Some named) × (effect_of answer ≡ writes_alone Status.Refused (document_fault_line named))) }
     ensures status { IfOk result (λ answer. answer.status ≡ Status.Refused) }
-    ensures output { IfOk result (λ answer. answer.output ≡ fault_line (fault_in file.now flaw)) }
+    ensures unput { IfOk result (λ answer. answer.puts ≡ []) }
+    ensures untold { IfErr result (IsTroubleOf fault.now) }
 {
-    Ok(Answer {
-        status: Status::Refused,
-        output: Bytes::from_vec(fault_text(alloc, file, flaw)?),
-    })
+    let output = document_fault_text(alloc, fault)?;
+    Ok(written(alloc, Status::Refused, output))
 }

@@ -3,31 +3,16 @@
 
 mod answer;
 mod check;
-mod choices;
-mod conditions;
-mod document;
-mod fault;
 mod laws;
-mod lines;
-mod memory;
-mod mentions;
-mod obstacle;
-mod options;
 mod program;
 mod report;
-mod search;
 mod status;
-mod survey;
-mod verdict;
 mod words;
 
-pub use laws::{
-    lines_join, one_document, one_fault, one_outcome, one_reading, one_verdict,
-    options_follow_the_rule, permitted_choices,
-};
-pub use memory::Memory;
+pub use laws::{each_has_an_outcome, one_fault, one_outcome, one_reading};
 pub use program::run;
 pub use status::Status;
+pub use vkb_bytes::Memory;
 pub use words::{Request, WordFault, read_words};
 
 #[cfg(test)]

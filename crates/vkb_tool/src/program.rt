@@ -34,7 +34,7 @@ pub fn run<S: Shelf, K: Sink>(
         (record { files = S.holds shelf.new; written = K.written out.new; read_faults = S.read_faults shelf.new; put_faults = S.put_faults shelf.new; write_faults = K.faults out.new }) }
 {
     match answer_words(alloc, words, shelf) {
-        Ok(answer) => deliver(&answer, out),
+        Ok(answer) => deliver(answer, shelf, out),
         Err(Trouble::ReadFailed) => Status::ReadFault,
         Err(Trouble::NoMemory) => Status::Memory,
     }

@@ -1,14 +1,19 @@
-ghost use Rattle.std.specs.Prelude.{◌≡◌, ◌++◌, length, string_bytes, IfOk, OnOk};
+ghost use Rattle.std.specs.Prelude.{◌≡◌, ◌++◌, ◌^◌, ◌<◌, List, ℕ, Some, codes, length, slice_get, string_bytes, IfErr, IfOk, OnOk};
 ghost use Rattle.std.specs.List.{flat_map};
-ghost use Rattle.vkb_tool.specs.Conditions.{chosen_of};
-ghost use Rattle.vkb_tool.specs.Fault.{fault_in};
-ghost use Rattle.vkb_tool.specs.Judgement.{NamesChoice};
-ghost use Rattle.vkb_tool.specs.Report.{broken_lines, fault_line, file_fault_line, line_fault_line, place_text, report_of, usage_line, with_line};
+ghost use Rattle.doc_tree.specs.Answer.{told_of};
+ghost use Rattle.doc_tree.specs.Fault.{Fault as DocumentFault};
+ghost use Rattle.doc_tree.specs.Flat.{FlatLine};
+ghost use Rattle.doc_tree.specs.Loaded.{flat_of};
+ghost use Rattle.doc_build.specs.Choices.{chosen_of};
+ghost use Rattle.vkb_tool.specs.Check.{AreFilesThere, IsTroubleOf, NamesWithin};
+ghost use Rattle.vkb_tool.specs.Fault.{NotBuilt, TooManyNames};
+ghost use Rattle.vkb_tool.specs.Report.{broken_lines, document_fault_line, fault_line, file_fault_line, line_fault_line, place_text, report_of, spot_in, usage_line, with_line};
 
 use crate::Memory;
-use crate::fault::Flaw;
-use crate::options::Options;
-use crate::verdict::{Place, Verdict};
+use crate::answer::Trouble;
+use doc_build::Place;
+use doc_tree::{DocFault, Document};
+use lift_check::{OptionId, Options, Verdict};
 use std::alloc::Global;
 
 /// The line for words whose position, from 1, has no place.
@@ -18,46 +23,97 @@ pub fn usage_text(alloc: Global, position: u32) -> Result<Vec<u8>, Memory>
     Ok(format!(in alloc; "usage {position}\n")?.into_bytes())
 }
 
-/// The line for a flaw of a file.
-pub fn fault_text(alloc: Global, file: &str, flaw: Flaw) -> Result<Vec<u8>, Memory>
-    ensures { IfOk result (λ text. text.items ≡ fault_line (fault_in file.now flaw)) }
+/// The line for a fault of a document. A failed read and want of memory have none.
+pub fn document_fault_text(alloc: Global, fault: &DocFault) -> Result<Vec<u8>, Trouble>
+    ensures told { IfOk result (λ text. (named : DocumentFault) × (told_of fault.now ≡ Some named) × (text.items ≡ document_fault_line named)) }
+    ensures untold { IfErr result (IsTroubleOf fault.now) }
 {
-    match flaw {
-        Flaw::Missing => file_fault_text(alloc, "Missing", file),
-        Flaw::TooLarge => file_fault_text(alloc, "TooLarge", file),
-        Flaw::BadCondition { line } => line_fault_text(alloc, "BadCondition", file, line),
-        Flaw::Unbalanced { line } => line_fault_text(alloc, "Unbalanced", file, line),
-        Flaw::CondDepth { line } => line_fault_text(alloc, "CondDepth", file, line),
-        Flaw::NotBuilt { line } => line_fault_text(alloc, "NotBuilt", file, line),
-        Flaw::TooManyNames { count } => {
-            Ok(format!(in alloc; "refused TooManyNames {count}\n")?.into_bytes())
+    match fault {
+        DocFault::Missing { name } => Ok(file_fault_text(alloc, b"Missing", name.as_slice())?),
+        DocFault::TooLarge { name } => Ok(file_fault_text(alloc, b"TooLarge", name.as_slice())?),
+        DocFault::IncludeDepth { name, line } => {
+            Ok(line_fault_text(alloc, b"IncludeDepth", name.as_slice(), *line)?)
         }
+        DocFault::DocTooLong { name, line } => {
+            Ok(line_fault_text(alloc, b"DocTooLong", name.as_slice(), *line)?)
+        }
+        DocFault::NameLimit { name, line } => {
+            Ok(line_fault_text(alloc, b"NameLimit", name.as_slice(), *line)?)
+        }
+        DocFault::BadCondition { name, line } => {
+            Ok(line_fault_text(alloc, b"BadCondition", name.as_slice(), *line)?)
+        }
+        DocFault::Unbalanced { name, line } => {
+            Ok(line_fault_text(alloc, b"Unbalanced", name.as_slice(), *line)?)
+        }
+        DocFault::CondDepth { name, line } => {
+            Ok(line_fault_text(alloc, b"CondDepth", name.as_slice(), *line)?)
+        }
+        DocFault::ReadFault => Err(Trouble::ReadFailed),
+        DocFault::Memory => Err(Trouble::NoMemory),
     }
 }
 
+/// The line for a line of a document whose form isn't built yet.
+pub fn not_built_text(alloc: Global, document: &Document, line: usize) -> Result<Vec<u8>, Memory>
+    requires files { AreFilesThere document.now }
+    requires line { line < length document.now.lines }
+    ensures { IfOk result (λ text. (whole : List ℕ) (flat : FlatLine) → slice_get (flat_of whole document.now) line ≡ Some flat → text.items ≡ fault_line (NotBuilt flat.file flat.number)) }
+{
+    let place = document.lines.as_slice()[line].line;
+    let file = document.files.as_slice()[place.file as usize].as_slice();
+    line_fault_text(alloc, b"NotBuilt", file, place.number)
+}
+
+/// The line for options that are too many: so many.
+pub fn too_many_text(alloc: Global, count: u32) -> Result<Vec<u8>, Memory>
+    ensures { IfOk result (λ text. text.items ≡ fault_line (TooManyNames count)) }
+{
+    Ok(format!(in alloc; "refused TooManyNames {count}\n")?.into_bytes())
+}
+
 /// The line for a fault of a file, by its code.
-fn file_fault_text(alloc: Global, code: &str, file: &str) -> Result<Vec<u8>, Memory>
+fn file_fault_text(alloc: Global, code: &[u8], file: &[u8]) -> Result<Vec<u8>, Memory>
     ensures { IfOk result (λ text. text.items ≡ file_fault_line code.now file.now) }
 {
-    Ok(format!(in alloc; "refused {code} {file}\n")?.into_bytes())
+    let mut text = refused(alloc, code)?;
+    text.extend_from_slice(file)?;
+    text.push(b'\n')?;
+    Ok(text)
 }
 
 /// The line for a fault at a line of a file, from 1, by its code.
-fn line_fault_text(alloc: Global, code: &str, file: &str, line: u32) -> Result<Vec<u8>, Memory>
+fn line_fault_text(alloc: Global, code: &[u8], file: &[u8], line: u32) -> Result<Vec<u8>, Memory>
     ensures { IfOk result (λ text. text.items ≡ line_fault_line code.now file.now line) }
 {
-    Ok(format!(in alloc; "refused {code} {file}:{line}\n")?.into_bytes())
+    let mut text = refused(alloc, code)?;
+    text.extend_from_slice(file)?;
+    let tail = format!(in alloc; ":{line}\n")?;
+    text.extend_from_slice(tail.as_bytes())?;
+    Ok(text)
 }
 
-/// The report of a verdict on a file.
+/// What the line of a fault begins with, by its code.
+fn refused(alloc: Global, code: &[u8]) -> Result<Vec<u8>, Memory>
+    ensures { IfOk result (λ text. text.items ≡ codes "refused " ++ code.now ++ codes " ") }
+{
+    let mut text = Vec::from_slice(alloc, b"refused ")?;
+    text.extend_from_slice(code)?;
+    text.push(b' ')?;
+    Ok(text)
+}
+
+/// The report of a verdict on a document.
 pub fn report(
     alloc: Global,
-    file: &str,
+    document: &Document,
     options: &Options,
     verdict: &Verdict,
 ) -> Result<Vec<u8>, Memory>
-    requires { NamesChoice options.now.free verdict.now }
-    ensures { IfOk result (λ text. text.items ≡ report_of file.now options.now.free verdict.now) }
+    requires files { AreFilesThere document.now }
+    requires few { length options.now.free < 2 ^ 32 }
+    requires within { NamesWithin (length document.now.lines) (length options.now.free) verdict.now }
+    ensures { IfOk result (λ text. (whole : List ℕ) → text.items ≡ report_of (flat_of whole document.now) options.now.free verdict.now) }
 {
     match verdict {
         Verdict::Yes { links } => Ok(format!(in alloc; "yes {links}\n")?.into_bytes()),
@@ -67,7 +123,7 @@ pub fn report(
             choice,
             count,
         } => {
-            let mut text = broken_text(alloc, file, *place, id.as_slice(), *count)?;
+            let mut text = broken_text(alloc, document, *place, id.as_slice(), *count)?;
             add_choice(&mut text, options, choice.as_slice())?;
             Ok(text)
         }
@@ -77,46 +133,66 @@ pub fn report(
 /// The lines on a link that hasn't exactly one anchor.
 fn broken_text(
     alloc: Global,
-    file: &str,
+    document: &Document,
     place: Place,
     id: &[u8],
     count: u64,
 ) -> Result<Vec<u8>, Memory>
-    ensures { IfOk result (λ text. text.items ≡ broken_lines file.now place id.now count) }
+    requires files { AreFilesThere document.now }
+    requires line { place.line < length document.now.lines }
+    ensures { IfOk result (λ text. (whole : List ℕ) → text.items ≡ broken_lines (flat_of whole document.now) place id.now count) }
 {
-    let place = place_text(alloc, file, place)?;
-    let mut text = format!(in alloc; "no {place}\n")?.into_bytes();
+    let mut text = Vec::from_slice(alloc, b"no ")?;
+    add_place(alloc, &mut text, document, place)?;
+    text.push(b'\n')?;
     text.extend_from_slice(id)?;
     let tail = format!(in alloc; " {count}\n")?;
     text.extend_from_slice(tail.as_bytes())?;
     Ok(text)
 }
 
+/// Adds a place in a document.
+fn add_place(
+    alloc: Global,
+    text: &mut Vec<u8>,
+    document: &Document,
+    place: Place,
+) -> Result<(), Memory>
+    requires files { AreFilesThere document.now }
+    requires line { place.line < length document.now.lines }
+    ensures { OnOk result ((whole : List ℕ) → text.new.items ≡ text.old.items ++ place_text (flat_of whole document.now) place) }
+{
+    let line = document.lines.as_slice()[place.line as usize].line;
+    text.extend_from_slice(document.files.as_slice()[line.file as usize].as_slice())?;
+    let spot = spot_text(alloc, line.number, place.statement, place.at)?;
+    text.extend_from_slice(spot.as_bytes())?;
+    Ok(())
+}
+
+/// A place in a line of a file, without the file's name.
+fn spot_text(alloc: Global, number: u32, statement: u32, at: u32) -> Result<String, Memory>
+    ensures { IfOk result (λ text. string_bytes text ≡ spot_in number statement at) }
+{
+    let column = u64::from(at) + 1;
+    if statement == 0 {
+        Ok(format!(in alloc; ":{number}:{column}")?)
+    } else {
+        Ok(format!(in alloc; ":{number}/{statement}:{column}")?)
+    }
+}
+
 /// Adds a line for each chosen option.
 fn add_choice(text: &mut Vec<u8>, options: &Options, choice: &[bool]) -> Result<(), Memory>
-    requires { length choice.now ≡ length options.now.free }
+    requires whole { length choice.now ≡ length options.now.free }
+    requires few { length options.now.free < 2 ^ 32 }
     ensures { OnOk result (text.new.items ≡ text.old.items ++ flat_map with_line (chosen_of options.now.free choice.now)) }
 {
     for (option, chosen) in choice.iter().enumerate() {
         if *chosen {
             text.extend_from_slice(b"with ")?;
-            text.extend_from_slice(options.name(option))?;
+            text.extend_from_slice(options.name(OptionId(option as u32)))?;
             text.push(b'\n')?;
         }
     }
     Ok(())
-}
-
-/// A place in a file.
-fn place_text(alloc: Global, file: &str, place: Place) -> Result<String, Memory>
-    ensures { IfOk result (λ text. string_bytes text ≡ place_text file.now place) }
-{
-    let line = u64::from(place.line) + 1;
-    let column = u64::from(place.at) + 1;
-    if place.statement == 0 {
-        Ok(format!(in alloc; "{file}:{line}:{column}")?)
-    } else {
-        let statement = place.statement;
-        Ok(format!(in alloc; "{file}:{line}/{statement}:{column}")?)
-    }
 }

@@ -17,10 +17,25 @@ fn words_of(alloc: Global, text: &str) -> Result<Vec<Vec<u8>>, AllocError> {
     Ok(words)
 }
 
+/// A file of this name and text.
+fn file(alloc: Global, name: &str, text: &str) -> Result<(String, Vec<u8>), AllocError> {
+    Ok((
+        String::from_str(alloc, name)?,
+        text.as_bytes().to_vec(alloc)?,
+    ))
+}
+
 /// One file of this text, `a.adoc`.
 fn one_file(alloc: Global, text: &[u8]) -> Result<Files, AllocError> {
     let file = (String::from_str(alloc, "a.adoc")?, text.to_vec(alloc)?);
     Ok(vec![in alloc; file]?)
+}
+
+/// Two chapters of these texts, `chapters/a.adoc` and `chapters/b.adoc`.
+fn two_chapters(alloc: Global, first: &str, second: &str) -> Result<Files, AllocError> {
+    let first = file(alloc, "chapters/a.adoc", first)?;
+    let second = file(alloc, "chapters/b.adoc", second)?;
+    Ok(vec![in alloc; first, second]?)
 }
 
 /// Runs the words over a shelf, and gives the status and what was written.
@@ -55,6 +70,26 @@ fn says(
         output.as_slice(),
         written.as_bytes(),
         "{words} on {text:?}"
+    );
+    Ok(())
+}
+
+/// Asserts what a check of `chapters/a.adoc` comes to, beside `chapters/b.adoc`.
+fn reads(
+    rt: &impl Abort,
+    alloc: Global,
+    first: &str,
+    second: &str,
+    written: &str,
+) -> Result<(), AllocError> {
+    let files = two_chapters(alloc, first, second)?;
+    assert!(rt; names_differ(&files));
+    let mut shelf = SureShelf::new(files);
+    let (_, output) = answer_on(rt, alloc, &mut shelf, "check - chapters/a.adoc -")?;
+    assert_eq!(rt;
+        output.as_slice(),
+        written.as_bytes(),
+        "{first:?} with {second:?}"
     );
     Ok(())
 }
@@ -152,9 +187,112 @@ fn faults_are_told_in_their_order(rt: HostRuntime) -> Result<(), Fail> {
     refuses(&rt, alloc, text, "refused BadCondition a.adoc:4\n")?;
     let text = "include::a[]\nendif::[]\n";
     refuses(&rt, alloc, text, "refused Unbalanced a.adoc:2\n")?;
-    let text = "[[a]]\n\nifdef::A[]\ninclude::b[]\n<<b>>\nendif::[]";
-    refuses(&rt, alloc, text, "refused NotBuilt a.adoc:4\n")?;
     refuses(&rt, alloc, ":refpage: VkA", "refused NotBuilt a.adoc:1\n")?;
+    let text = "\n\n:refpage: VkA\n:refpage: VkB\n";
+    refuses(&rt, alloc, text, "refused NotBuilt a.adoc:3\n")?;
+    Ok(())
+}
+
+#[test]
+fn includes_of_other_forms_stay_as_they_are(rt: HostRuntime) -> Result<(), Fail> {
+    let alloc = rt.alloc();
+    let text = "[[a]]\n\nifdef::A[]\ninclude::b[<<c>>]\n<<b>>\nendif::[]";
+    breaks(&rt, alloc, text, "no a.adoc:5:1\nb 0\nwith A\n")?;
+    let text = "include::{generated}/api/structs/VkA.adoc[]\nslink:VkA\n";
+    breaks(&rt, alloc, text, "no a.adoc:2:1\nVkA 0\n")?;
+    let text = "include::{generated}/validity/structs/VkA.adoc[]\n";
+    holds(&rt, alloc, text, "yes 0\n")?;
+    Ok(())
+}
+
+#[test]
+fn chapters_are_followed(rt: HostRuntime) -> Result<(), Fail> {
+    let alloc = rt.alloc();
+    let a = "<<b>>\ninclude::{chapters}/b.adoc[]\n[[a]]\n";
+    reads(&rt, alloc, a, "[[b]]\n<<a>>\n", "yes 2\n")?;
+    reads(
+        &rt,
+        alloc,
+        a,
+        "[[b]]\n\n x <<c>>\n",
+        "no chapters/b.adoc:3:4\nc 0\n",
+    )?;
+    let twice = "include::{chapters}/b.adoc[]\ninclude::{chapters}/b.adoc[]\n<<b>>\n";
+    reads(
+        &rt,
+        alloc,
+        twice,
+        "[[b]]\n",
+        "no chapters/a.adoc:3:1\nb 2\n",
+    )?;
+    let under = "ifdef::X[]\ninclude::{chapters}/b.adoc[]\nendif::X[]\n<<b>>\n";
+    reads(
+        &rt,
+        alloc,
+        under,
+        "[[b]]\n",
+        "no chapters/a.adoc:4:1\nb 0\n",
+    )?;
+    reads(
+        &rt,
+        alloc,
+        under,
+        "<<c>>\n",
+        "no chapters/b.adoc:1:1\nc 0\nwith X\n",
+    )?;
+    Ok(())
+}
+
+#[test]
+fn faults_of_chapters_have_their_places(rt: HostRuntime) -> Result<(), Fail> {
+    let alloc = rt.alloc();
+    let a = "include::{chapters}/b.adoc[]\n";
+    reads(
+        &rt,
+        alloc,
+        a,
+        "\nendif::[]\n",
+        "refused Unbalanced chapters/b.adoc:2\n",
+    )?;
+    let opened = "ifdef::X[]\ninclude::{chapters}/b.adoc[]\n";
+    reads(
+        &rt,
+        alloc,
+        opened,
+        "endif::X[]\n",
+        "refused Unbalanced chapters/a.adoc:1\n",
+    )?;
+    reads(
+        &rt,
+        alloc,
+        a,
+        "ifeval::[]\n",
+        "refused BadCondition chapters/b.adoc:1\n",
+    )?;
+    let missing = "ifdef::X[]\ninclude::{chapters}/c.adoc[]\nendif::X[]\n";
+    reads(&rt, alloc, missing, "", "refused Missing chapters/c.adoc\n")?;
+    reads(
+        &rt,
+        alloc,
+        a,
+        "\n:refpage: VkA\n",
+        "refused NotBuilt chapters/b.adoc:2\n",
+    )?;
+    let itself = "include::{chapters}/a.adoc[]\n";
+    reads(
+        &rt,
+        alloc,
+        itself,
+        "",
+        "refused IncludeDepth chapters/a.adoc:1\n",
+    )?;
+    reads(
+        &rt,
+        alloc,
+        a,
+        itself,
+        "refused IncludeDepth chapters/b.adoc:1\n",
+    )?;
     Ok(())
 }
 
@@ -194,7 +332,7 @@ fn twelve_options_are_tried(rt: HostRuntime) -> Result<(), Fail> {
     refuses(&rt, alloc, text, "refused TooManyNames 13\n")?;
     let words = "check - a.adoc - +F";
     says(&rt, alloc, text, words, "yes 0\n", Status::Done)?;
-    let text = "ifdef::A,B,C,D,E,F,G,H,I,J,K,L,M[]\nendif::[]\ninclude::b[]";
+    let text = "ifdef::A,B,C,D,E,F,G,H,I,J,K,L,M[]\nendif::[]\n:refpage: VkA";
     refuses(&rt, alloc, text, "refused NotBuilt a.adoc:3\n")?;
     Ok(())
 }
@@ -230,8 +368,15 @@ fn a_name_is_text_and_some(rt: HostRuntime) -> Result<(), Fail> {
     }
     let words = words_of(alloc, "check - é.adoc - +A-1 +_")?;
     assert!(rt; words.len() < 100);
-    let Request::Check { root, always } = read_words(alloc, &words)?;
+    let Request::Check {
+        registry,
+        root,
+        api,
+        always,
+    } = read_words(alloc, &words)?;
+    assert!(rt; registry.is_none());
     assert_eq!(rt; root.as_str(), "é.adoc");
+    assert_eq!(rt; api.as_slice(), b"-".as_slice());
     assert_eq!(rt; always.as_slice().len(), 2);
     assert_eq!(rt; always.as_slice()[0].as_slice(), b"A-1".as_slice());
     assert_eq!(rt; always.as_slice()[1].as_slice(), b"_".as_slice());
@@ -269,6 +414,20 @@ fn a_failed_read_leaves_nothing_written(rt: HostRuntime) -> Result<(), Fail> {
 }
 
 #[test]
+fn a_check_reads_once_and_writes_once(rt: HostRuntime) -> Result<(), Fail> {
+    let alloc = rt.alloc();
+    let files = one_file(alloc, b"[[a]]\n<<a>>\n")?;
+    assert!(rt; names_differ(&files));
+    let mut shelf = MemoryShelf::new(files, vec![in alloc; 2]?);
+    let words = words_of(alloc, "check - a.adoc -")?;
+    assert!(rt; words.len() < 100);
+    let mut sink = MemorySink::new(alloc, vec![in alloc; (2, 0)]?);
+    assert_eq!(rt; run(alloc, &words, &mut shelf, &mut sink), Status::Done);
+    assert_eq!(rt; sink.written(), b"yes 1\n".as_slice());
+    Ok(())
+}
+
+#[test]
 fn a_failed_write_leaves_a_prefix(rt: HostRuntime) -> Result<(), Fail> {
     let alloc = rt.alloc();
     for (count, written) in [(0, ""), (3, "yes"), (5, "yes 1"), (9, "yes 1\n")] {
@@ -290,13 +449,9 @@ fn a_failed_write_leaves_a_prefix(rt: HostRuntime) -> Result<(), Fail> {
 #[test]
 fn statuses_have_their_numbers(rt: HostRuntime) {
     one_reading();
-    lines_join();
-    one_document();
     one_fault();
-    one_verdict();
     one_outcome();
-    options_follow_the_rule();
-    permitted_choices();
+    each_has_an_outcome();
     assert_eq!(rt; Status::Done.number(), 0);
     assert_eq!(rt; Status::Broken.number(), 1);
     assert_eq!(rt; Status::Usage.number(), 2);

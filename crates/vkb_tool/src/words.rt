@@ -12,8 +12,14 @@ use vkb_bytes::{Bytes, Listed, Text};
 /// What the words ask for.
 #[derive(Debug, Drop)]
 pub enum Request {
-    /// A verdict on the links of a file, where these names of conditions are always set.
-    Check { root: Text, always: Listed<Bytes> },
+    /// A verdict on the links of the document of a root, where these names of conditions are always set. Its options and
+    /// pages are those of a registry for an API; without one the API is `-`.
+    Check {
+        registry: Option<Text>,
+        root: Text,
+        api: Bytes,
+        always: Listed<Bytes>,
+    },
 }
 
 /// Why words were not read.
@@ -69,8 +75,11 @@ pub fn read_words(alloc: Global, words: &[Vec<u8>]) -> Result<Request, WordFault
     }
     let always = attributes(alloc, words)?;
     let root = String::from_str(alloc, root)?;
+    let api = Bytes::from_slice(alloc, b"-")?;
     Ok(Request::Check {
+        registry: None,
         root: Text::from_string(root),
+        api,
         always: Listed::from_vec(always),
     })
 }

@@ -1,11 +1,8 @@
-use Rattle.std.proofs.Common.{Some, None, Option, IfSome}
+use Rattle.std.proofs.Common.{Some, None, Option, IfSome, subst, sym}
 use Rattle.vkb_outside.specs.Shelf.{Files}
-use Rattle.vkb_tool.specs.declared.status.Status.TheVariants.{Usage}
 use Rattle.vkb_tool.specs.Answer.{effect_of}
-use Rattle.vkb_tool.specs.Outcome.{Outcome, misplaced}
-use Rattle.vkb_tool.specs.Report.{usage_line}
+use Rattle.vkb_tool.specs.Outcome.{Effect, Outcome, misplaced}
 use Rattle.vkb_tool.specs.Words.{items_of}
-use Rattle.vkb_tool.proofs.OutcomeLemmas.{retold}
 use Rattle.vkb_tool.proofs.answer.answer_words.Goals as goal
 
 -- what holds of all files holds of those that are told
@@ -20,4 +17,4 @@ returns-in_ok-misplaced-in-Err-Usage-clause-outcome g c =
     let told = c.in_ok-misplaced-in-Err-Usage.ensures in
     let position = c.in-Err-Usage.position in
     told_all (g.S.Shelf.holds c.args.shelf.now) (λ files. Outcome words files (effect_of answer)) (λ files.
-    retold words files Usage (usage_line position) answer told.status told.output (misplaced position (rw c.in-Err-Usage.field-0-is at c.in-Err-Usage.ensures.misplaced)))
+    subst (λ (e : Effect). Outcome words files e) (sym told) (misplaced position (rw c.in-Err-Usage.field-0-is at c.in-Err-Usage.ensures.misplaced)))

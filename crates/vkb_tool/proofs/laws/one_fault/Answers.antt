@@ -1,5 +1,5 @@
-use Rattle.vkb_tool.proofs.LawLemmas.{same_fault}
+use Rattle.vkb_tool.proofs.AgreementLemmas.{same_fault}
 use Rattle.vkb_tool.proofs.laws.one_fault.Goals as goal
 
 pub returns : goal.returns
-returns c = same_fault c.one_kind.ensures
+returns c = same_fault c.one_walk.ensures

@@ -2,7 +2,7 @@ use Rattle.std.proofs.Common.{◌≡◌, ◌<◌, ◌+◌, ℕ, Bool, true, fals
 use Rattle.std.specs.List.{flat_map}
 use Rattle.std.proofs.lemmas.List.{append-nil, flat_map_more}
 use Rattle.std.proofs.lemmas.Option.{get_or_from_slice_get}
-use Rattle.vkb_tool.specs.Conditions.{chosen_of}
+use Rattle.doc_build.specs.Choices.{chosen_of}
 use Rattle.vkb_tool.specs.Report.{with_line}
 use Rattle.vkb_tool.proofs.ReportLemmas.{chosen_of_more}
 use Rattle.vkb_tool.proofs.report.add_choice.Goals as goal
@@ -40,6 +40,6 @@ loop-option-preserved c =
           let second = w.in_ok-extend_from_slice-2.ensures.items in
           let third = w.in_ok-push.ensures.items in
           let all : c.if-chosen.text.items ≡ c.loop-option.text.items ++ codes "with " ++ name ++ 10 ∷ [] = ap (λ v. v.items) w.text-is ∙ third ∙ ap (λ (t : List ℕ). t ++ 10 ∷ []) (second ∙ ap (λ (t : List ℕ). t ++ name) first) in
-          all ∙ added c.loop-option.text.items start name options choice k c.requires c.loop-option-test.true w.if-chosen.true named c.loop-option.invariant
-      | else-chosen w ↦ ap (λ v. v.items) w.text-is ∙ passed c.loop-option.text.items start options choice k c.requires c.loop-option-test.true w.if-chosen.false c.loop-option.invariant
+          all ∙ added c.loop-option.text.items start name options choice k c.requires.whole c.loop-option-test.true w.if-chosen.true named c.loop-option.invariant
+      | else-chosen w ↦ ap (λ v. v.items) w.text-is ∙ passed c.loop-option.text.items start options choice k c.requires.whole c.loop-option-test.true w.if-chosen.false c.loop-option.invariant
     ]

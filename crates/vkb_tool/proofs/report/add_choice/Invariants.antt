@@ -1,6 +1,6 @@
 use Rattle.std.proofs.Common.{◌≡◌, ◌++◌, take}
 use Rattle.std.specs.List.{flat_map}
-use Rattle.vkb_tool.specs.Conditions.{chosen_of}
+use Rattle.doc_build.specs.Choices.{chosen_of}
 use Rattle.vkb_tool.specs.Report.{with_line}
 use Rattle.vkb_tool.proofs.report.add_choice.Given as goal
 

@@ -52,4 +52,5 @@ returns-clause-request c =
     let root : c.from_string.result ≡ c.in-Some.root.now = search rules in
     let front = front_4 words c.in-Some.root.now (c.if-not-has_word.ensures.0 refl) (c.if-not-has_word-2.ensures.0 refl) named.0 (c.if-not-has_word-3.ensures.0 refl) in
     let all : words ≡ check_words c.in-Some.root.now names = set.words_are ∙ ap (λ (w : List (List ℕ)). w ++ map attribute_word names) front in
-    rw (root, c.from_vec.ensures) (named.1, set.names_are, all)
+    let api : c.in_ok-api.api ≡ 45 ∷ [] = search rules in
+    rw (root, api, c.from_vec.ensures) (refl, named.1, set.names_are, all)

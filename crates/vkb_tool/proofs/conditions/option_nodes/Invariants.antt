@@ -1,6 +1,0 @@
-use Rattle.std.proofs.Common.{◌≡◌, ◌+◌, length}
-use Rattle.vkb_tool.specs.Nodes.{HoldsOptions}
-use Rattle.vkb_tool.proofs.conditions.option_nodes.Given as goal
-
-abbrev pub invariant-loop-option : goal.invariant-loop-option
-invariant-loop-option l = HoldsOptions l.option l.pool × (length l.pool ≡ l.option + 1)
