@@ -1,7 +1,8 @@
-ghost use Rattle.std.specs.Prelude.{◌≡◌, ◌^◌, ◌≤◌, None, IsOk, OnOk};
+ghost use Rattle.std.specs.Prelude.{◌≡◌, ◌^◌, ◌≤◌, None, IsOk, OnOk, OnErr};
 ghost use Rattle.std.specs.Io.KnownBytes.{Appends};
 ghost use Rattle.vkb_outside.specs.Sink.{Writes, CountsWrite};
 ghost use Rattle.vkbuild.specs.Faults.{after_write};
+ghost use Rattle.vkbuild.specs.Output.{AppendsPrefix};
 
 use crate::pieces::write_whole;
 use std::io::Write;
@@ -56,6 +57,7 @@ impl<W: Write> Sink for OutSink<W> {
 
         // Where the stream tells what it holds.
         ensures output { OnOk result (Appends (W.contents self.old.stream) (W.contents self.new.stream) bytes.now) }
+        ensures part { OnErr result (AppendsPrefix (W.contents self.old.stream) (W.contents self.new.stream) bytes.now) }
     {
         match write_whole(&mut self.output, bytes) {
             Ok(()) => Ok(()),

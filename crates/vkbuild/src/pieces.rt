@@ -1,8 +1,9 @@
 //! Whole files, read and written piece by piece.
-ghost use Rattle.std.specs.Prelude.{◌≡◌, ◌≢◌, ◌↔◌, ◌<◌, ◌≤◌, length, IfSome, IfOk, OnOk};
+ghost use Rattle.std.specs.Prelude.{◌≡◌, ◌≢◌, ◌↔◌, ◌<◌, ◌≤◌, length, IfSome, IfOk, OnOk, OnErr};
 ghost use Rattle.std.specs.IoError.{error_kind};
 ghost use Rattle.std.specs.Io.KnownBytes.{Appends};
 ghost use Rattle.vkb_outside.specs.Shelf.{IsWithin};
+ghost use Rattle.vkbuild.specs.Output.{AppendsPrefix};
 
 use std::alloc::Global;
 use std::io::{ErrorKind, Read, Write};
@@ -67,9 +68,10 @@ fn read_within<F: Read>(alloc: Global, file: &mut F, most: u32) -> Result<Vec<u8
     Err(ReadTrouble::TooLong)
 }
 
-/// Writes all the bytes. A write that takes none of them is an error.
+/// Writes all the bytes, or a prefix of them at an error. A write that takes none of them is an error.
 pub fn write_whole<W: Write>(output: &mut W, bytes: &[u8]) -> io::Result<()>
-    ensures { OnOk result (Appends (W.contents output.old) (W.contents output.new) bytes.now) }
+    ensures whole { OnOk result (Appends (W.contents output.old) (W.contents output.new) bytes.now) }
+    ensures part { OnErr result (AppendsPrefix (W.contents output.old) (W.contents output.new) bytes.now) }
 {
     let mut rest = bytes;
     while !rest.is_empty() {
