@@ -1,5 +1,6 @@
 -- The file that a line includes.
 use Rattle.std.proofs.Common.{◌≡◌, ◌∙◌, refl, sym, ap, subst, ℕ, zero, suc, ◌<◌, List, [], ◌∷◌, ◌++◌, length, Option, Some, None, Result, IfSome, get_or, slice_get, slice_index_or, arith}
+use Rattle.std.proofs.lemmas.List.{append-nil}
 use Rattle.std.proofs.lemmas.Option.{IfSome_then, get_or_from_slice_get, same_Some, slice_get-get_or, slice_get_within}
 use Rattle.vkb_text.specs.Buffer.{Buffer}
 use Rattle.vkb_text.specs.Spans.{IsWithin as IsSpanWithin}
@@ -14,19 +15,12 @@ use Rattle.doc_tree.specs.Flat.{Condition, FlatLine}
 use Rattle.doc_tree.specs.Loaded.{round_at, rounds_of}
 use Rattle.doc_tree.specs.Opening.{AreThere}
 use Rattle.doc_tree.specs.Progress.{Extends, Grows, IsTaken}
-use Rattle.doc_tree.specs.Running.{Goes, IsFlatAt, RunsTo, chapter_steps, opened_steps}
+use Rattle.doc_tree.specs.Running.{Goes, IsAt, IsFlatAt, RunsTo, chapter_steps, opened_steps}
 use Rattle.doc_tree.specs.Sources.{Sources}
 use Rattle.doc_tree.specs.Walk.{Opens, Step, file_steps, first_fault, steps_below}
 use Rattle.doc_tree.proofs.NamesLemmas.{extends_itself, extends_length, extends_on}
 use Rattle.doc_tree.proofs.DraftLemmas.{slice_get-stays}
 use Rattle.doc_tree.proofs.RunLemmas.{run_stops, run_then}
-
-pub if_some_all : {X : Type 0} (o : Option X) (P : X → Type 0) → ((x : X) → P x) → IfSome o P
-if_some_all None P all = tt
-if_some_all (Some x) P all = all x
-
-pub if_some_same : {X : Type 0} (o p : Option X) (P : X → Type 0) → p ≡ o → IfSome o P → IfSome p P
-if_some_same {X = X} o p P same is = subst (λ (q : Option X). IfSome q P) (sym same) is
 
 -- ---- documents so far that go on
 
@@ -58,6 +52,12 @@ there_taken text d e kept behind there is = record {
 }
 
 -- ---- the steps below an include line
+
+-- a line that includes none has none
+pub no_chapter : (sources : Sources) (room : ℕ) (before : List Step) (text : Buffer) (d : Document) (kept : List SourceFile) → IsAt sources room before text d kept → (flat : FlatLine) (left : ℕ) (chapter : Option (List ℕ)) → chapter ≡ None
+    → (first_fault sources room before (chapter_steps (steps_below sources left) flat chapter) ≡ None) × IsAt sources room (before ++ chapter_steps (steps_below sources left) flat chapter) text d kept
+no_chapter sources room before text d kept was flat left None none = (refl, subst (λ (steps : List Step). IsAt sources room steps text d kept) (sym (append-nil before)) was)
+no_chapter sources room before text d kept was flat left (Some name) none = absurd (cc none)
 
 module _ (sources : Sources) (room : ℕ) (before : List Step) (text : Buffer) (d : Document) (kept : List SourceFile) (line : Line) (within : Option CondId) (name : List ℕ) (flat : FlatLine) (flat_at : IsFlatAt d line within (Some name) flat) where
   -- too many files are open in one another
@@ -122,7 +122,3 @@ line_there text d kept file place source line there is here =
     let all = there.lines_there file source is place line (slice_get_within source.lines place line here) in
     let read : get_or source.lines place line ≡ line = get_or_from_slice_get source.lines place line line here in
     subst (λ (l : Line). IsSpanWithin text l.span × (l.file ≡ file)) read all
-
-pub if_some_both : {X : Type 0} (o : Option X) (P Q R : X → Type 0) → IfSome o P → IfSome o Q → ((x : X) → P x → Q x → R x) → IfSome o R
-if_some_both None P Q R a b both = tt
-if_some_both (Some x) P Q R a b both = both x a b

@@ -5,6 +5,7 @@ pub mod RoundsLemmas
 pub mod DraftLemmas
 pub mod TakeLemmas
 pub mod SourceLemmas
+pub mod ReadsLemmas
 pub mod RunLemmas
 pub mod OpenLemmas
 pub mod WalkLemmas

@@ -8,9 +8,10 @@ use Rattle.doc_tree.specs.declared.fault.DocFault.TheVariants as doc
 use Rattle.doc_tree.specs.declared.source.SourceFile.{SourceFile}
 use Rattle.doc_tree.specs.Answer.{Answers, told_of}
 use Rattle.doc_tree.specs.Loaded.{flat_of}
+use Rattle.doc_tree.specs.Names.{each_once}
 use Rattle.doc_tree.specs.Running.{IsAt, RunsTo, opened_steps}
 use Rattle.doc_tree.specs.Sources.{Sources}
-use Rattle.doc_tree.specs.Walk.{Opens, Step, file_steps, first_fault, steps_below, taken, walk}
+use Rattle.doc_tree.specs.Walk.{Opens, Step, file_steps, first_fault, opened, steps_below, taken, walk}
 use Rattle.doc_tree.proofs.RunLemmas.{run_stops, run_then}
 
 -- no steps lead to a document of nothing
@@ -37,10 +38,10 @@ root_runs sources room root d1 d2 text2 kept2 file result none here runs =
     (subst (λ (ss : List Step). RunsTo sources room (Opens root ∷ []) text2 d2 kept2 ss result) steps runs)
 
 -- the document is given, or there is no memory for it
-pub answered : (sources : Sources) (room : ℕ) (steps : List Step) (text : List ℕ) (d : Document) (result : Result Document DocFault) → first_fault sources room [] steps ≡ None → flat_of text d ≡ taken steps → IfOk result (λ given. given ≡ d) → IfErr result (λ fault. fault ≡ doc.Memory)
+pub answered : (sources : Sources) (room : ℕ) (steps : List Step) (text : List ℕ) (d : Document) (result : Result Document DocFault) → first_fault sources room [] steps ≡ None → flat_of text d ≡ taken steps → d.files ≡ each_once (opened steps) → IfOk result (λ given. given ≡ d) → IfErr result (λ fault. fault ≡ doc.Memory)
     → Answers sources room steps text result
-answered sources room steps text d (Ok given) none lines is wrong = (none, ap (flat_of text) is ∙ lines)
-answered sources room steps text d (Err fault) none lines is wrong = subst (λ (f : DocFault). IfSome (told_of f) (λ told. first_fault sources room [] steps ≡ Some told)) (sym wrong) tt
+answered sources room steps text d (Ok given) none lines files is wrong = (none, ap (flat_of text) is ∙ lines, ap (λ (e : Document). e.files) is ∙ files)
+answered sources room steps text d (Err fault) none lines files is wrong = subst (λ (f : DocFault). IfSome (told_of f) (λ told. first_fault sources room [] steps ≡ Some told)) (sym wrong) tt
 
 -- a fault on the way is the first
 pub root_fails : (sources : Sources) (room : ℕ) (root : List ℕ) (d1 d2 : Document) (text2 : Buffer) (kept2 : List SourceFile) (file : ℕ) (fault : DocFault) → first_fault sources room [] (Opens root ∷ []) ≡ None → slice_get d1.files file ≡ Some root

@@ -9,7 +9,7 @@ use Rattle.std.proofs.lemmas.Option.{IfSome_then}
 use Rattle.vkb_text.specs.Buffer.{Buffer}
 use Rattle.vkb_text.specs.Lines.{lines_of}
 use Rattle.vkb_text.specs.Spans.{IsWithin as IsSpanWithin, slice_at}
-use Rattle.doc_cond.specs.Lines.{IsWithin as IsKindWithin}
+use Rattle.doc_cond.specs.Lines.{IsKind, IsWithin as IsKindWithin}
 use Rattle.doc_tree.specs.declared.DocLine.{DocLine}
 use Rattle.doc_tree.specs.declared.Document.{Document}
 use Rattle.doc_tree.specs.declared.fault.DocFault.{DocFault}
@@ -158,7 +158,8 @@ module _ (text bytes : List ℕ) (old : Document) (kept : List SourceFile) (name
   opens_line : (line : DocLine) → IsLineThere text old line → IsLineThere (text ++ bytes) opens line
   opens_line line is = record {
     span = span_within text bytes line.line.span is.span;
-    kind = subst (λ (b : List ℕ). IsKindWithin b line.kind) (sym (slice_stays text bytes line.line.span is.span)) is.kind;
+    kind = subst (λ (b : List ℕ). IsKind b line.kind) (sym (slice_stays text bytes line.line.span is.span)) is.kind;
+    places = subst (λ (b : List ℕ). IsKindWithin b line.kind) (sym (slice_stays text bytes line.line.span is.span)) is.places;
     file = let more = opens_longer in let was = is.file in omega arith;
     within = is.within;
     own = own_stays old opens line.within line.kind line.own there.draft.loaded.conds (extends_itself old.names) (extends_itself old.conds) is.own;

@@ -7,7 +7,7 @@ use Rattle.std.proofs.lemmas.List.Elements.{All-push, All-weaker}
 use Rattle.vkb_formula.specs.Names.{AreDifferent, most_names}
 use Rattle.vkb_text.specs.Spans.{IsWithin as IsSpanWithin, slice_at}
 use Rattle.vkb_text.specs.declared.Line.{Line}
-use Rattle.doc_cond.specs.Lines.{IsWithin as IsKindWithin}
+use Rattle.doc_cond.specs.Lines.{IsKind, IsWithin as IsKindWithin}
 use Rattle.doc_cond.specs.declared.LineKind.{LineKind}
 use Rattle.doc_cond.specs.declared.LineKind.TheVariants.{Plain, Comment, Other, Begin, OneLine, Close, Chapter, Api, Validity, Refpage}
 use Rattle.doc_tree.specs.declared.Cond.{Cond}
@@ -43,6 +43,7 @@ pub line_stays : (text : List ℕ) (d e : Document) (line : DocLine) → AreCond
 line_stays text d e line there files table conds is = record {
   span = is.span;
   kind = is.kind;
+  places = is.places;
   file = let more = extends_length d.files e.files files in let was = is.file in omega arith;
   within = before_later (length d.conds) (length e.conds) line.within (extends_length d.conds e.conds conds) is.within;
   own = own_stays d e line.within line.kind line.own there table conds is.own;
@@ -59,7 +60,7 @@ flat_stays text d e lines there files table conds all =
     ∙ ap (λ (r : List Condition). record { file = slice_index_or d.files line.line.file []; number = line.line.number; bytes = slice_at text line.line.span; kind = line.kind; round = r }) round)
 
 module _ (text : List ℕ) (old mid : Document) (line : Line) (kind : LineKind) (within : Option CondId) (standing : Standing) (draft : IsDraft text old) (stands : Stands old mid kind within standing)
-    (span : IsSpanWithin text line.span) (file : line.file < length old.files) (kind_within : IsKindWithin (slice_at text line.span) kind) (few : length old.lines < most_lines) (names_few : length mid.names ≤ most_names) where
+    (span : IsSpanWithin text line.span) (file : line.file < length old.files) (kind_is : IsKind (slice_at text line.span) kind) (kind_within : IsKindWithin (slice_at text line.span) kind) (few : length old.lines < most_lines) (names_few : length mid.names ≤ most_names) where
   abbrev taken_doc : DocLine
   taken_doc = record { line = line; kind = kind; within = standing.within; own = standing.own }
 
@@ -83,7 +84,8 @@ module _ (text : List ℕ) (old mid : Document) (line : Line) (kind : LineKind) 
   line_there : IsLineThere text after taken_doc
   line_there = record {
     span = span;
-    kind = kind_within;
+    kind = kind_is;
+    places = kind_within;
     file = let same = ap length stands.files_are in omega arith;
     within = before_later (length old.conds) (length mid.conds) standing.within (extends_length old.conds mid.conds stands.conds) stands.inside;
     own = own_stays mid after standing.within kind standing.own stands.conds_there (extends_itself mid.names) (extends_itself mid.conds) stands.own;

@@ -3,7 +3,7 @@ use Rattle.std.specs.Prelude.{◌≡◌, ℕ, ◌<◌, ◌≤◌, List, [], ◌�
 use Rattle.std.specs.List.{flat_map}
 use Rattle.vkb_formula.specs.Names.{AreDifferent}
 use Rattle.vkb_text.specs.Spans.{IsWithin as IsSpanWithin, slice_at}
-use Rattle.doc_cond.specs.Lines.{IsWithin as IsKindWithin}
+use Rattle.doc_cond.specs.Lines.{IsKind, IsWithin as IsKindWithin}
 use Rattle.doc_cond.specs.declared.LineKind.{LineKind}
 use Rattle.doc_cond.specs.declared.LineKind.TheVariants.{OneLine}
 use Rattle.doc_tree.specs.declared.Cond.{Cond}
@@ -57,10 +57,11 @@ IsOwn d within (OneLine negated any names from to) own =
     × (condition_of d.names cond ≡ record { negated = negated; any = any; names = names })
 IsOwn d within _ own = own ≡ None
 
--- a line that lies in the buffer and whose conditions are there
+-- a line that lies in the buffer, is of the kind that its bytes spell, and whose conditions are there
 pub record IsLineThere (text : List ℕ) (d : Document) (l : DocLine) : Type 0 where
   pub span : IsSpanWithin text l.line.span
-  pub kind : IsKindWithin (slice_at text l.line.span) l.kind
+  pub kind : IsKind (slice_at text l.line.span) l.kind
+  pub places : IsKindWithin (slice_at text l.line.span) l.kind
   pub file : l.line.file < length d.files
   pub within : IsBefore (length d.conds) l.within
   pub own : IsOwn d l.within l.kind l.own

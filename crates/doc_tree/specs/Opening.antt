@@ -1,7 +1,8 @@
 -- What is kept of a file that was read, and why one wasn't, for private contracts alone. No public contract names it.
-use Rattle.std.specs.Prelude.{◌≡◌, ℕ, ◌+◌, ◌<◌, ◌≤◌, List, Option, Some, None, Result, Ok, Err, Vec, length, map, slice_get, All, ⊤}
+use Rattle.std.specs.Prelude.{◌≡◌, ℕ, ◌+◌, ◌<◌, ◌≤◌, List, Option, Some, None, IfSome, Result, Ok, Err, Vec, length, map, slice_get, All, ⊤}
 use Rattle.std.specs.List.{AllZip, range_with_len}
 use Rattle.std.specs.declared.alloc.Global.{Global}
+use Rattle.vkb_outside.specs.Shelf.{Files}
 use Rattle.vkb_text.specs.Buffer.{Buffer}
 use Rattle.vkb_text.specs.Lines.{lines_of}
 use Rattle.vkb_text.specs.Spans.{IsWithin as IsSpanWithin, slice_at}
@@ -25,6 +26,12 @@ Fetches name found (Err (doc.TooLarge told)) = (told ≡ name) × ((bytes : List
 Fetches name found (Err doc.ReadFault) = ⊤
 Fetches name found (Err doc.Memory) = ⊤
 Fetches name found (Err _) = ⊥
+
+-- what is answered for a name on a shelf, by what is found there
+pub record IsFetched (told : Option Files) (name : List ℕ) (result : Result (Vec ℕ Global) DocFault) : Type 0 where
+  pub found : Option (List ℕ)
+  pub told_is : IfSome told (λ holds. holds name ≡ found)
+  pub fetches : Fetches name found result
 
 -- the buffer has room for so many bytes
 abbrev pub Fits : Buffer → List ℕ → Type 0

@@ -40,6 +40,28 @@ RunsTo sources room before text d kept steps (Err fault) = IfSome (told_of fault
 abbrev pub Runs : {X : Type 0} → Files → Buffer → Document → List SourceFile → Buffer → Document → List SourceFile → (Sources → List Step) → Result X DocFault → Type 0
 Runs files text d kept text' d' kept' steps result = (sources : Sources) → AreSources files sources → (room : ℕ) (before : List Step) → IsAt sources room before text d kept → RunsTo sources room before text' d' kept' (steps sources) result
 
+-- others have under each of these names what these files have
+abbrev pub Agree : List (List ℕ) → Files → Files → Type 0
+Agree names files others = (file : ℕ) (name : List ℕ) → slice_get names file ≡ Some name → others name ≡ files name
+
+-- what may turn out to be found, in place of these files, behind an answer: the names that were opened keep what they have, and after
+-- a fault nothing more is read
+abbrev pub TurnsOut : {X : Type 0} → Result X DocFault → List (List ℕ) → Files → Files → Type 0
+TurnsOut (Ok done) names files others = Agree names files others
+TurnsOut (Err fault) names files others = others ≡ files
+
+-- It holds of some files, and of all that these may turn out to be, that agree with those known before on the names that were open.
+-- Where a shelf tells its files and these were known, it is these.
+pub record Learns (told : Option Files) (names : List (List ℕ)) (Later : Files → Files → Type 0) (P : Files → Type 0) (known : Files) : Type 0 where
+  pub files : Files
+  pub told_are : IfSome told (λ holds. known ≡ holds → files ≡ holds)
+  pub kept : Agree names known files
+  pub holds : (others : Files) → Later files others → P others
+
+-- whatever was known before
+abbrev pub ByReads : Option Files → List (List ℕ) → (Files → Files → Type 0) → (Files → Type 0) → Type 0
+ByReads told names Later P = (known : Files) → Learns told names Later P known
+
 -- what was there stays, and what came is there
 pub record Goes (text : Buffer) (d d' : Document) (kept kept' : List SourceFile) : Type 0 where
   pub there : AreThere text.bytes d' kept'

@@ -319,6 +319,7 @@ fn put_last(ids: &mut Vec<NameId>, id: NameId) -> Result<(), NameFault>
 /// The kind of a line that was read before.
 fn read_kind(alloc: Global, line: &[u8]) -> Result<LineKind, DocFault>
     requires { length line.now < 2 ^ 32 }
+    ensures kind { IfOk result (IsKind line.now) }
     ensures only { IfOk result (λ read. (kind : LineKind) → IsKind line.now kind → read ≡ kind) }
     ensures within { IfOk result (IsKindWithin line.now) }
     ensures ascii { IfOk result GivesAscii }

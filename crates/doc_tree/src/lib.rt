@@ -29,8 +29,8 @@
 //! ```
 #![tactic(auto)]
 
-ghost use Rattle.std.specs.Prelude.{◌≡◌, ◌+◌, ◌++◌, ℕ, List, length, IfOk, IfSome};
-ghost use Rattle.doc_tree.specs.Answer.{Answers, CountsLoad};
+ghost use Rattle.std.specs.Prelude.{◌≡◌, ◌+◌, ◌++◌, ℕ, List, length, IfOk};
+ghost use Rattle.doc_tree.specs.Answer.{Answers, CountsLoad, IsReadBy};
 ghost use Rattle.doc_tree.specs.Loaded.{IsLoaded};
 ghost use Rattle.doc_tree.specs.Sources.{AreSources, Sources};
 ghost use Rattle.doc_tree.specs.Walk.{walk};
@@ -101,6 +101,9 @@ const MOST_BELOW: u32 = 15;
 /// (`BadCondition`), its first ill nested one (`Unbalanced`, `CondDepth`), and of each line in turn that it would be the 4,000,001st
 /// (`DocTooLong`) or its names more than 1,048,576 (`NameLimit`). `ReadFault` is answered only where the shelf failed, and `Memory`
 /// where memory runs out. After a fault the buffer may have more files.
+///
+/// The files are those that the shelf tells. Where it tells none, there are files whose document or first fault this is: each name is
+/// read once, so that no two lines take different bytes of one file.
 pub fn load<S: Shelf>(
     alloc: Global,
     shelf: &mut S,
@@ -109,7 +112,7 @@ pub fn load<S: Shelf>(
 ) -> Result<Document, DocFault>
     ensures loaded { IfOk result (IsLoaded text.new.bytes) }
     // `room` is what the buffer has left at the start.
-    ensures document { IfSome (S.holds shelf.old) (λ files. (sources : Sources) → AreSources files sources
+    ensures document { IsReadBy (S.holds shelf.old) (λ files. (sources : Sources) → AreSources files sources
         → (room : ℕ) → length text.old.bytes + room ≡ text.old.most → Answers sources room (walk sources root.now) text.new.bytes result) }
     ensures counted { CountsLoad (S.read_faults shelf.old) (S.read_faults shelf.new) result }
     ensures kept { S.holds shelf.new ≡ S.holds shelf.old }

@@ -1,12 +1,12 @@
 //! The files of a document: each is read once, and its lines and pairs are kept.
-ghost use Rattle.std.specs.Prelude.{◌≡◌, ◌+◌, ◌<◌, ◌≤◌, ◌++◌, ◌^◌, ℕ, List, All, length, map, IfOk, IfErr, IfSome, OnOk};
+ghost use Rattle.std.specs.Prelude.{◌≡◌, ◌+◌, ◌<◌, ◌≤◌, ◌++◌, ◌^◌, ℕ, List, All, length, map, IfOk, IfErr, OnOk};
 ghost use Rattle.std.specs.List.{AllZip, range_with_len};
 ghost use Rattle.vkb_text.specs.Spans.{IsWithin as IsSpanWithin, slice_at};
 ghost use Rattle.doc_cond.specs.Lines.{IsKind};
 ghost use Rattle.doc_cond.specs.Nesting.{ArePairs};
 ghost use Rattle.doc_cond.specs.declared.LineKind.{LineKind};
 ghost use Rattle.doc_tree.specs.Answer.{CountsLoad};
-ghost use Rattle.doc_tree.specs.Opening.{Fetches, Fits, IsKindFault, IsPairsFault, IsSourceFault, IsSourceFile, IsSpellingFault, IsSure};
+ghost use Rattle.doc_tree.specs.Opening.{Fits, IsFetched, IsKindFault, IsPairsFault, IsSourceFault, IsSourceFile, IsSpellingFault, IsSure};
 ghost use Rattle.doc_tree.specs.Progress.{Extends};
 ghost use Rattle.doc_tree.specs.Sources.{most_bytes};
 
@@ -29,7 +29,7 @@ pub(crate) struct SourceFile {
 
 /// The bytes of a file.
 pub(crate) fn fetch<S: Shelf>(alloc: Global, shelf: &mut S, name: &str) -> Result<Vec<u8>, DocFault>
-    ensures fetched { IfSome (S.holds shelf.old) (λ files. Fetches name.now (files name.now) result) }
+    ensures fetched { IsFetched (S.holds shelf.old) name.now result }
     ensures within { IfOk result (λ bytes. length bytes.items ≤ most_bytes) }
     ensures counted { CountsLoad (S.read_faults shelf.old) (S.read_faults shelf.new) result }
     ensures kept { S.holds shelf.new ≡ S.holds shelf.old }

@@ -240,9 +240,10 @@ fn a_document_has_at_most_4_000_000_lines(rt: HostRuntime) -> Result<(), Fail> {
 /// A chain of so many chapters, each with an include of the next and the last with a line of text, behind a root.
 fn chain(alloc: Global, count: u32) -> Result<Vec<(String, Vec<u8>)>, AllocError> {
     let mut held = files_of(alloc, &[("r.adoc", "include::{chapters}/1.adoc[]\n")])?;
-    for number in 1..count + 1 {
-        let next = u64::from(number) + 1;
-        let text = if number < count {
+    for below in 0..count {
+        let number = u64::from(below) + 1;
+        let next = number + 1;
+        let text = if number < u64::from(count) {
             format!(in alloc; "include::{{chapters}}/{next}.adoc[]\n")?
         } else {
             String::from_str(alloc, "x\n")?

@@ -1,11 +1,11 @@
 //! The walk over the files of a document.
-ghost use Rattle.std.specs.Prelude.{◌≡◌, ◌+◌, ◌<◌, ◌≤◌, ◌^◌, [], ◌∷◌, ℕ, Some, length, slice_get, slice_index_or, IfOk, IfSome, OnOk};
+ghost use Rattle.std.specs.Prelude.{◌≡◌, ◌+◌, ◌<◌, ◌≤◌, ◌^◌, [], ◌∷◌, ℕ, Some, length, slice_get, slice_index_or, IfOk, OnOk};
 ghost use Rattle.doc_tree.specs.Answer.{CountsLoad};
 ghost use Rattle.doc_tree.specs.Flat.{FlatLine};
 ghost use Rattle.doc_tree.specs.Loaded.{IsBefore};
 ghost use Rattle.doc_tree.specs.Opening.{AreThere};
 ghost use Rattle.doc_tree.specs.Progress.{Extends};
-ghost use Rattle.doc_tree.specs.Running.{Goes, IsFlatAt, Runs, chapter_steps, opened_steps};
+ghost use Rattle.doc_tree.specs.Running.{ByReads, Goes, IsFlatAt, Runs, TurnsOut, chapter_steps, opened_steps};
 ghost use Rattle.doc_tree.specs.Walk.{Opens, steps_below};
 ghost use Rattle.doc_tree.specs.declared.source.SourceFile.{SourceFile};
 
@@ -32,7 +32,7 @@ pub(crate) fn open_file<S: Shelf>(
     ensures lines { OnOk result (draft.new.lines ≡ draft.old.lines) }
     ensures one_more { OnOk result (length draft.new.files ≤ length draft.old.files + 1) }
     ensures file { IfOk result (λ file. slice_get draft.new.files file ≡ Some name.now) }
-    ensures runs { IfSome (S.holds shelf.old) (λ files. Runs files text.old draft.old kept.old.items text.new draft.new kept.new.items (λ sources. Opens name.now ∷ []) result) }
+    ensures runs { ByReads (S.holds shelf.old) draft.old.files (TurnsOut result draft.new.files) (λ files. Runs files text.old draft.old kept.old.items text.new draft.new kept.new.items (λ sources. Opens name.now ∷ []) result) }
     ensures counted { CountsLoad (S.read_faults shelf.old) (S.read_faults shelf.new) result }
     ensures kept { S.holds shelf.new ≡ S.holds shelf.old }
     ensures puts { S.put_faults shelf.new ≡ S.put_faults shelf.old }
@@ -67,7 +67,7 @@ pub(crate) fn walk_file<S: Shelf>(
     requires round { IsBefore (length draft.old.conds) round }
     ensures goes { OnOk result (Goes text.new draft.old draft.new kept.old.items kept.new.items) }
     ensures few { OnOk result (length draft.new.files ≤ length draft.new.lines + 1) }
-    ensures runs { IfSome (S.holds shelf.old) (λ files. Runs files text.old draft.old kept.old.items text.new draft.new kept.new.items (opened_steps draft.old left file round) result) }
+    ensures runs { ByReads (S.holds shelf.old) draft.old.files (TurnsOut result draft.new.files) (λ files. Runs files text.old draft.old kept.old.items text.new draft.new kept.new.items (opened_steps draft.old left file round) result) }
     ensures counted { CountsLoad (S.read_faults shelf.old) (S.read_faults shelf.new) result }
     ensures kept { S.holds shelf.new ≡ S.holds shelf.old }
     ensures puts { S.put_faults shelf.new ≡ S.put_faults shelf.old }
@@ -114,7 +114,7 @@ fn follow<S: Shelf>(
     requires within { IsBefore (length draft.old.conds) within }
     ensures goes { OnOk result (Goes text.new draft.old draft.new kept.old.items kept.new.items) }
     ensures few { OnOk result (length draft.new.files ≤ length draft.new.lines + 1) }
-    ensures runs { IfSome (S.holds shelf.old) (λ files. (flat : FlatLine) → IsFlatAt draft.old line within chapter flat
+    ensures runs { ByReads (S.holds shelf.old) draft.old.files (TurnsOut result draft.new.files) (λ files. (flat : FlatLine) → IsFlatAt draft.old line within chapter flat
         → Runs files text.old draft.old kept.old.items text.new draft.new kept.new.items (λ sources. chapter_steps (steps_below sources left) flat chapter) result) }
     ensures counted { CountsLoad (S.read_faults shelf.old) (S.read_faults shelf.new) result }
     ensures kept { S.holds shelf.new ≡ S.holds shelf.old }

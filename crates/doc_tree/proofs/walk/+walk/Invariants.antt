@@ -1,8 +1,8 @@
-use Rattle.std.proofs.Common.{◌≡◌, ◌+◌, ◌*◌, ◌≤◌, ℕ, [], List, length, slice_index_or, IfSome}
+use Rattle.std.proofs.Common.{◌≡◌, ◌+◌, ◌*◌, ◌≤◌, ℕ, [], List, length, slice_index_or}
 use Rattle.doc_tree.specs.Loaded.{IsBefore, round_at, rounds_of}
 use Rattle.doc_tree.specs.Opening.{AreThere}
 use Rattle.doc_tree.specs.Progress.{Extends, Grows}
-use Rattle.doc_tree.specs.Running.{IsAt}
+use Rattle.doc_tree.specs.Running.{Agree, ByReads, IsAt}
 use Rattle.doc_tree.specs.Sources.{AreSources, Sources}
 use Rattle.doc_tree.specs.Walk.{Step}
 use Rattle.doc_tree.proofs.WalkLemmas.{Reached}
@@ -26,6 +26,6 @@ invariant-walk_file-loop-place g l = record {
   holds : g.S.Shelf.holds l.shelf ≡ g.S.Shelf.holds l.initial.shelf;
   puts : g.S.Shelf.put_faults l.shelf ≡ g.S.Shelf.put_faults l.initial.shelf;
   reads : g.S.Shelf.read_faults l.shelf ≡ g.S.Shelf.read_faults l.initial.shelf;
-  runs : IfSome (g.S.Shelf.holds l.initial.shelf) (λ files. (sources : Sources) → AreSources files sources → (room : ℕ) (before : List Step) → IsAt sources room before l.initial.text l.initial.draft l.initial.kept.items
+  runs : ByReads (g.S.Shelf.holds l.initial.shelf) l.initial.draft.files (Agree l.draft.files) (λ files. (sources : Sources) → AreSources files sources → (room : ℕ) (before : List Step) → IsAt sources room before l.initial.text l.initial.draft l.initial.kept.items
       → Reached sources room before l.left (slice_index_or l.initial.draft.files l.file []) (round_at (rounds_of l.initial.draft) l.fn.round) l.place l.text l.draft l.kept.items l.within);
 }
