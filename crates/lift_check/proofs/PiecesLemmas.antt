@@ -104,4 +104,4 @@ surveyed text files rounds lines ids anchors links survey =
 
 -- the lines of a loaded document lie in its text
 pub lines_in : (text : List ℕ) (d : Document) → IsLoaded text d → All (IsLineIn text) d.lines
-lines_in text d loaded = All-weaker (IsLineThere text d) (IsLineIn text) (λ l there. record { span = there.span; kind = there.kind }) d.lines loaded.lines
+lines_in text d loaded = All-weaker (IsLineThere text d) (IsLineIn text) (λ l there. record { span = there.span; kind = there.places }) d.lines loaded.lines

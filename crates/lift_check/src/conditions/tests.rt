@@ -65,7 +65,7 @@ impl Draft {
         for name in names.split(' ') {
             ids.push(self.names.intern(name.as_bytes())?)?;
         }
-        let id = CondId(self.conds.len() as u32);
+        let id = CondId(u32::try_from(self.conds.len()).unwrap_or(u32::MAX));
         self.conds.push(Cond {
             negated: directive.negated,
             any: directive.any,
