@@ -1,6 +1,5 @@
 -- What is asked of the files has one first fault, and two outcomes of the same words and files are alike.
 use Rattle.std.proofs.Common.{inl, inr, ◌≡◌, ◌≢◌, ◌⊎◌, ℕ, List, [], Option, slice_get, false, refl, sym, ap, ◌∙◌, subst}
-use Rattle.std.specs.List.{flat_map}
 use Rattle.std.proofs.lemmas.Bool.{cases_order, false≢true}
 use Rattle.std.proofs.lemmas.List.Elements.{All-get_or}
 use Rattle.std.proofs.lemmas.Option.{get_or_from_slice_get, none-some, same_Some, slice_get_within}
@@ -10,7 +9,7 @@ use Rattle.doc_tree.specs.Flat.{FlatLine}
 use Rattle.doc_tree.specs.Sources.{AreSources, Sources}
 use Rattle.doc_tree.specs.Walk.{IsDocument, IsFaultOf, first_fault, taken, walk}
 use Rattle.doc_build.specs.declared.Place.{Place}
-use Rattle.doc_build.specs.Choices.{Choice, bare_setting, chosen_of, free_names}
+use Rattle.doc_build.specs.Choices.{Choice, bare_setting, free_names}
 use Rattle.lift_check.specs.Verdict.{IsVerdict}
 use Rattle.lift_check.specs.declared.Verdict.{Verdict}
 use Rattle.lift_check.specs.declared.Verdict.TheVariants.{No, Yes}
@@ -18,8 +17,8 @@ use Rattle.vkb_tool.specs.declared.status.Status.TheVariants.{Broken, Refused, U
 use Rattle.vkb_tool.specs.declared.words.Request.{Request}
 use Rattle.vkb_tool.specs.declared.words.Request.TheVariants.{Check}
 use Rattle.vkb_tool.specs.Fault.{Fault, InDocument, NotBuilt, TooManyNames}
-use Rattle.vkb_tool.specs.Outcome.{AreBuilt, Effect, HasNoFault, IsCheckFault, IsFaultIn, IsFirstFault, IsFirstUnbuilt, Outcome, checked, is_unbuilt, misplaced, most_text, refused, status_of, writes_alone}
-use Rattle.vkb_tool.specs.Report.{NamesPlace, fault_line, report_of, usage_line, with_line}
+use Rattle.vkb_tool.specs.Outcome.{AreBuilt, Effect, HasNoFault, IsCheckFault, IsFaultIn, IsFirstFault, IsFirstUnbuilt, NameOnePlace, Outcome, TellsPlace, checked, is_unbuilt, misplaced, most_text, refused, status_of, writes_alone}
+use Rattle.vkb_tool.specs.Report.{fault_line, report_of, usage_line}
 use Rattle.vkb_tool.specs.Words.{Spells}
 use Rattle.vkb_tool.proofs.WordsLemmas.{one_position, same_request}
 
@@ -100,13 +99,19 @@ module _ (one_walk : OneWalk) where
 -- ---- one outcome
 
 -- two runs end alike: but for the choice that a `no` names, with its id and its count there, they leave the same
-record AreAlike (effect other : Effect) : Type 0 where
+record AreAlike (words : List (List ℕ)) (files : Files) (effect other : Effect) : Type 0 where
   pub status_is : effect.status ≡ other.status
   pub same : effect.status ≢ Broken → effect ≡ other
-  pub place : effect.status ≡ Broken → (lines : List FlatLine) × (place : Place) × NamesPlace effect.output lines place × NamesPlace other.output lines place
+  pub place : effect.status ≡ Broken → NameOnePlace words files effect.output other.output
 
-same_alike : (effect other : Effect) → effect.status ≢ Broken → effect ≡ other → AreAlike effect other
-same_alike effect other judged same = record { status_is = ap (λ (e : Effect). e.status) same; same = λ _. same; place = λ broken. absurd (judged broken) }
+-- two runs by verdicts on one document end alike
+record AreAlikeOn (always : List (List ℕ)) (lines : List FlatLine) (effect other : Effect) : Type 0 where
+  pub status_is : effect.status ≡ other.status
+  pub same : effect.status ≢ Broken → effect ≡ other
+  pub place : effect.status ≡ Broken → (place : Place) × TellsPlace always lines place effect.output × TellsPlace always lines place other.output
+
+same_alike : (words : List (List ℕ)) (files : Files) (effect other : Effect) → effect.status ≢ Broken → effect ≡ other → AreAlike words files effect other
+same_alike words files effect other judged same = record { status_is = ap (λ (e : Effect). e.status) same; same = λ _. same; place = λ broken. absurd (judged broken) }
 
 -- what a run leaves that tells a verdict
 abbrev answer_of : List FlatLine → List (List ℕ) → Verdict → Effect
@@ -121,20 +126,30 @@ module _ (one_walk : OneWalk)
     (words : List (List ℕ)) (files : Files) where
   -- two verdicts on a document are told alike
   verdicts_alike : (always : List (List ℕ)) (lines : List FlatLine) (verdict other : Verdict) → IsVerdict (bare_setting always lines) lines verdict → IsVerdict (bare_setting always lines) lines other
-      → AreAlike (answer_of lines (free_names always lines) verdict) (answer_of lines (free_names always lines) other)
-  verdicts_alike always lines (Yes links) (Yes more) is also =
-      same_alike (answer_of lines (free_names always lines) (Yes links)) (answer_of lines (free_names always lines) (Yes more)) (λ e. cc)
-      (ap (λ (n : ℕ). answer_of lines (free_names always lines) (Yes n)) (same_count always lines links more is also))
+      → AreAlikeOn always lines (answer_of lines (free_names always lines) verdict) (answer_of lines (free_names always lines) other)
+  verdicts_alike always lines (Yes links) (Yes more) is also = record {
+    status_is = refl;
+    same = λ _. ap (λ (n : ℕ). answer_of lines (free_names always lines) (Yes n)) (same_count always lines links more is also);
+    place = λ broken. absurd (cc);
+  }
   verdicts_alike always lines (Yes links) (No place id choice count) is also = absurd (never_both always lines links place id choice count is also)
   verdicts_alike always lines (No place id choice count) (Yes links) is also = absurd (never_both always lines links place id choice count also is)
   verdicts_alike always lines (No place id choice count) (No other name chosen counted) is also =
-      let told = flat_map with_line (chosen_of (free_names always lines) choice) in
-      let retold = flat_map with_line (chosen_of (free_names always lines) chosen) in
       let at : place ≡ other = same_place always lines place other id name choice chosen count counted is also in
       record {
         status_is = refl;
         same = λ judged. absurd (judged refl);
-        place = λ _. (lines, place, (id, count, told, refl), (name, counted, retold, cc));
+        place = λ _. (
+          place,
+          record { id = id; choice = choice; count = count; judged = is; output_is = refl },
+          record {
+            id = name;
+            choice = chosen;
+            count = counted;
+            judged = subst (λ (p : Place). IsVerdict (bare_setting always lines) lines (No p name chosen counted)) (sym at) also;
+            output_is = ap (λ (p : Place). report_of lines (free_names always lines) (No p name chosen counted)) (sym at);
+          },
+        );
       }
 
   -- a request in which a fault stands is not the one in which none does
@@ -145,7 +160,7 @@ module _ (one_walk : OneWalk)
   checks_alike : (registry file : Option (List ℕ)) (root name api word : List ℕ) (always names : List (List ℕ)) (lines others : List FlatLine) (verdict told : Verdict)
       → Spells words (Check registry root api always) → Spells words (Check file name word names) → IsDocument files most_text root lines → IsDocument files most_text name others
       → IsVerdict (bare_setting always lines) lines verdict → IsVerdict (bare_setting names others) others told
-      → AreAlike (answer_of lines (free_names always lines) verdict) (answer_of others (free_names names others) told)
+      → AreAlike words files (answer_of lines (free_names always lines) verdict) (answer_of others (free_names names others) told)
   checks_alike registry file root name api word always names lines others verdict told spelled also is made judged said =
       let request = same_request words (Check registry root api always) (Check file name word names) spelled also in
       let same_root : root ≡ name = cc in
@@ -153,19 +168,26 @@ module _ (one_walk : OneWalk)
       let same : lines ≡ others = same_document one_walk files root lines others is (subst (λ (r : List ℕ). IsDocument files most_text r others) (sym same_root) made) in
       let there : IsVerdict (bare_setting always lines) lines told = rw (same_always, same) said in
       let alike = verdicts_alike always lines verdict told judged there in
-      rw (sym same_always, sym same) alike
+      let whole : AreAlike words files (answer_of lines (free_names always lines) verdict) (answer_of lines (free_names always lines) told) = record {
+        status_is = alike.status_is;
+        same = alike.same;
+        place = λ broken.
+            let named = alike.place broken in
+            record { registry = registry; root = root; api = api; always = always; spelled = spelled; lines = lines; document = is; place = named.0; one = named.1; also = named.2 };
+      } in
+      rw (sym same_always, sym same) whole
 
   -- two outcomes are alike
-  outcomes_alike : (effect other : Effect) → Outcome words files effect → Outcome words files other → AreAlike effect other
+  outcomes_alike : (effect other : Effect) → Outcome words files effect → Outcome words files other → AreAlike words files effect other
   outcomes_alike _ _ (misplaced position is) (misplaced place also) =
-      same_alike (writes_alone Usage (usage_line position)) (writes_alone Usage (usage_line place)) (λ e. cc)
+      same_alike words files (writes_alone Usage (usage_line position)) (writes_alone Usage (usage_line place)) (λ e. cc)
       (ap (λ (n : ℕ). writes_alone Usage (usage_line n)) (one_position words position place is also))
   outcomes_alike _ _ (misplaced position is) (refused request fault spelled flawed) = absurd (is.none request spelled)
   outcomes_alike _ _ (misplaced position is) (checked registry root api always lines verdict spelled sound made judged) = absurd (is.none (Check registry root api always) spelled)
   outcomes_alike _ _ (refused request fault spelled flawed) (misplaced position is) = absurd (is.none request spelled)
   outcomes_alike _ _ (refused request fault spelled flawed) (refused other told also wrong) =
       let there = subst (λ (r : Request). IsFirstFault r files told) (same_request words other request also spelled) wrong in
-      same_alike (writes_alone Refused (fault_line fault)) (writes_alone Refused (fault_line told)) (λ e. cc)
+      same_alike words files (writes_alone Refused (fault_line fault)) (writes_alone Refused (fault_line told)) (λ e. cc)
       (ap (λ (f : Fault). writes_alone Refused (fault_line f)) (same_fault one_walk request files fault told flawed there))
   outcomes_alike _ _ (refused request fault spelled flawed) (checked registry root api always lines verdict also sound made judged) =
       absurd (never_refused request (Check registry root api always) fault spelled also flawed sound)
@@ -182,5 +204,5 @@ module _ (one_walk : OneWalk)
   same_effect effect other is also = (outcomes_alike effect other is also).same
 
   pub same_place_named : (effect other : Effect) → Outcome words files effect → Outcome words files other → effect.status ≡ Broken
-      → (lines : List FlatLine) × (place : Place) × NamesPlace effect.output lines place × NamesPlace other.output lines place
+      → NameOnePlace words files effect.output other.output
   same_place_named effect other is also = (outcomes_alike effect other is also).place

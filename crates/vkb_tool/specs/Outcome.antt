@@ -5,7 +5,8 @@ use Rattle.doc_cond.specs.declared.LineKind.{LineKind}
 use Rattle.doc_cond.specs.declared.LineKind.TheVariants.{Refpage}
 use Rattle.doc_tree.specs.Flat.{FlatLine}
 use Rattle.doc_tree.specs.Walk.{IsDocument, IsFaultOf}
-use Rattle.doc_build.specs.Choices.{bare_setting, free_names}
+use Rattle.doc_build.specs.declared.Place.{Place}
+use Rattle.doc_build.specs.Choices.{Choice, bare_setting, free_names}
 use Rattle.lift_check.specs.declared.Verdict.{Verdict}
 use Rattle.lift_check.specs.declared.Verdict.TheVariants.{Yes, No}
 use Rattle.lift_check.specs.Choices.{most_options}
@@ -94,3 +95,24 @@ pub data Outcome (words : List (List ℕ)) (files : Files) : Effect → Type 0 w
       → Spells words (Check registry root api always) → HasNoFault (Check registry root api always) files
       → IsDocument files most_text root lines → IsVerdict (bare_setting always lines) lines verdict
       → Outcome words files (writes_alone (status_of verdict) (report_of lines (bare_setting always lines).options verdict))
+
+-- the report that this link of a document is the first that some permitted choice breaks, with some such choice
+pub record TellsPlace (always : List (List ℕ)) (lines : List FlatLine) (place : Place) (output : List ℕ) : Type 0 where
+  pub id : List ℕ
+  pub choice : Choice
+  pub count : ℕ
+  pub judged : IsVerdict (bare_setting always lines) lines (No place id choice count)
+  pub output_is : output ≡ report_of lines (bare_setting always lines).options (No place id choice count)
+
+-- two reports on the document of a request name one place
+pub record NameOnePlace (words : List (List ℕ)) (files : Files) (output other : List ℕ) : Type 0 where
+  pub registry : Option (List ℕ)
+  pub root : List ℕ
+  pub api : List ℕ
+  pub always : List (List ℕ)
+  pub spelled : Spells words (Check registry root api always)
+  pub lines : List FlatLine
+  pub document : IsDocument files most_text root lines
+  pub place : Place
+  pub one : TellsPlace always lines place output
+  pub also : TellsPlace always lines place other

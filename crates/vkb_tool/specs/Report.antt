@@ -1,5 +1,5 @@
 -- The text of reports and fault lines. Numbers are decimal, and each line ends in a line feed.
-use Rattle.std.specs.Prelude.{◌≡◌, ℕ, ◌+◌, ◌==◌, Option, Some, None, List, [], ◌∷◌, ◌++◌, codes, decimal, slice_get, if◌then◌else◌}
+use Rattle.std.specs.Prelude.{ℕ, ◌+◌, ◌==◌, Option, Some, None, List, [], ◌∷◌, ◌++◌, codes, decimal, slice_get, if◌then◌else◌}
 use Rattle.std.specs.List.{flat_map}
 use Rattle.doc_tree.specs.Fault as document
 use Rattle.doc_tree.specs.Flat.{FlatLine}
@@ -71,7 +71,3 @@ abbrev pub fault_line : Fault → List ℕ
 fault_line (InDocument fault) = document_fault_line fault
 fault_line (NotBuilt file line) = line_fault_line (codes "NotBuilt") file line
 fault_line (TooManyNames count) = codes "refused TooManyNames " ++ decimal count ++ line_feed
-
--- the output is a report that names this place of a document as broken, with some id, some count and some choice
-abbrev pub NamesPlace : List ℕ → List FlatLine → Place → Type 0
-NamesPlace output lines place = (id : List ℕ) × (count : ℕ) × (chosen : List ℕ) × (output ≡ broken_lines lines place id count ++ chosen)

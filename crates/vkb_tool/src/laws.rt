@@ -2,11 +2,8 @@
 //! that the proof cites.
 ghost use Rattle.std.specs.Prelude.{◌≡◌, ◌≢◌, ℕ, List};
 ghost use Rattle.vkb_outside.specs.Shelf.{Files};
-ghost use Rattle.doc_tree.specs.Flat.{FlatLine};
-ghost use Rattle.doc_build.specs.declared.Place.{Place};
 ghost use Rattle.vkb_tool.specs.Fault.{Fault};
-ghost use Rattle.vkb_tool.specs.Outcome.{Effect, IsFirstFault, Outcome};
-ghost use Rattle.vkb_tool.specs.Report.{NamesPlace};
+ghost use Rattle.vkb_tool.specs.Outcome.{Effect, IsFirstFault, NameOnePlace, Outcome};
 ghost use Rattle.vkb_tool.specs.Words.{Spells, IsMisplaced};
 ghost use Rattle.vkb_tool.specs.declared.status.Status.TheVariants.{Broken};
 
@@ -36,7 +33,7 @@ pub fn one_outcome()
     ensures status { (words : List (List ℕ)) (files : Files) (effect other : Effect) → Outcome words files effect → Outcome words files other → effect.status ≡ other.status }
     ensures same { (words : List (List ℕ)) (files : Files) (effect other : Effect) → Outcome words files effect → Outcome words files other → effect.status ≢ Broken → effect ≡ other }
     ensures place { (words : List (List ℕ)) (files : Files) (effect other : Effect) → Outcome words files effect → Outcome words files other → effect.status ≡ Broken
-        → (lines : List FlatLine) × (place : Place) × NamesPlace effect.output lines place × NamesPlace other.output lines place }
+        → NameOnePlace words files effect.output other.output }
 {
     one_walk();
     one_verdict();

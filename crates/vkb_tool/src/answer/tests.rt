@@ -1,3 +1,5 @@
+ghost use Rattle.std.specs.Prelude.{◌≡◌, IfOk};
+
 use super::*;
 use std::alloc::AllocError;
 use std::process::Abort;
@@ -5,7 +7,9 @@ use std::test::Fail;
 use vkb_outside::{MemoryShelf, MemorySink, names_differ};
 
 /// A file that is put.
-fn put(alloc: Global, name: &str, bytes: &[u8]) -> Result<FilePut, AllocError> {
+fn put(alloc: Global, name: &str, bytes: &[u8]) -> Result<FilePut, AllocError>
+    ensures { IfOk result (λ put. put.name ≡ name.now) }
+{
     Ok(FilePut {
         name: Text::from_string(String::from_str(alloc, name)?),
         bytes: Bytes::from_slice(alloc, bytes)?,

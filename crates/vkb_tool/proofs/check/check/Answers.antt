@@ -1,8 +1,8 @@
-use Rattle.std.proofs.Common.{◌≡◌, ◌≢◌, ◌+◌, ℕ, List, [], length, Option, Some, IfSome, IfOk, IfErr, Result, Ok, Err, refl, sym, ap, ◌∙◌, subst}
+use Rattle.std.proofs.Common.{◌≡◌, ◌≢◌, ◌+◌, ℕ, List, [], length, Option, Some, None, IfSome, IfOk, IfErr, Result, Ok, Err, refl, sym, ap, ◌∙◌, subst}
 use Rattle.std.proofs.lemmas.Option.{IfSome_then, none-some}
 use Rattle.vkb_outside.specs.Shelf.{Files}
 use Rattle.vkb_text.specs.Buffer.{Buffer}
-use Rattle.doc_tree.specs.Answer.{Answers, CountsLoad, told_of}
+use Rattle.doc_tree.specs.Answer.{Answers, CountsLoad, IsReadBy, told_of}
 use Rattle.doc_tree.specs.Fault.{Fault as DocumentFault}
 use Rattle.doc_tree.specs.Loaded.{flat_of}
 use Rattle.doc_tree.specs.Sources.{AreSources, Sources}
@@ -28,9 +28,16 @@ abbrev Loads : Files → List ℕ → List ℕ → ℕ → ℕ → Result Docume
 Loads files root text used most result =
     (sources : Sources) → AreSources files sources → (room : ℕ) → used + room ≡ most → Answers sources room (walk sources root) text result
 
+-- what was read of a shelf that tells its files was read of these
+read_told : (held : Option Files) (P : Files → Type 0) → IsReadBy held P → IfSome held P
+read_told None P by = tt
+read_told (Some holds) P by = subst P by.told_are by.holds
+
 -- a document that was loaded into a new text was walked
 walked : (files : Files) (root text : List ℕ) (used most : ℕ) (d : Document) → used + most_text ≡ most → Loads files root text used most (Ok d) → IsWalked files root (flat_of text d)
-walked files root text used most d whole load = λ sources are. load sources are most_text whole
+walked files root text used most d whole load = λ sources are.
+    let answer = load sources are most_text whole in
+    (answer.0, answer.1)
 
 -- a new text has room for all
 new_room : (text : Buffer) → text ≡ record { bytes = []; most = most_text } → length text.bytes + most_text ≡ text.most
@@ -41,7 +48,7 @@ returns-in-Ok-clause-outcome g c =
     let d = c.in-Ok.document in
     let text = c.load.new.text.bytes in
     let empty = c.new-text.result in
-    IfSome_then (g.S.Shelf.holds c.args.shelf.now) c.in-Ok.ensures.document (λ files load words registry api spelled.
+    IfSome_then (g.S.Shelf.holds c.args.shelf.now) (read_told (g.S.Shelf.holds c.args.shelf.now) _ c.in-Ok.ensures.document) (λ files load words registry api spelled.
     told_outcome c.files_have_sources.ensures words files registry c.args.root.now api c.args.always.now (flat_of text d) (effect_of c.in_ok-tell-in-Ok.field-0) spelled
     (walked files c.args.root.now text (length empty.bytes) empty.most d (new_room empty c.new-text.ensures) load) c.in_ok-tell-in-Ok.ensures.told)
 
@@ -61,7 +68,7 @@ pub returns-clause-outcome : goal.returns-clause-outcome
 returns-clause-outcome g c =
     let empty = c.new-text.result in
     refusal c.files_have_sources.ensures (g.S.Shelf.holds c.args.shelf.now) c.args.root.now c.args.always.now c.load.new.text.bytes (length empty.bytes) empty.most c.in-Err.fault c.refuse.result
-    (new_room empty c.new-text.ensures) c.in-Err.ensures.document c.refuse.ensures.told
+    (new_room empty c.new-text.ensures) (read_told (g.S.Shelf.holds c.args.shelf.now) _ c.in-Err.ensures.document) c.refuse.ensures.told
 
 -- the count of failed reads stays but for a failed read
 steady : (before now : ℕ) (fault : DocFault) → CountsLoad {X = Document} before now (Err fault) → fault ≢ code.ReadFault → now ≡ before
