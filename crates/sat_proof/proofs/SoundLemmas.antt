@@ -10,7 +10,7 @@ use Rattle.std.proofs.lemmas.List.Sums.{AllPass-from_list_all}
 use Rattle.std.proofs.lemmas.Option.{get_or_from_slice_get, slice_get_within}
 use Rattle.sat_cnf.specs.declared.lit.Lit.{Lit}
 use Rattle.sat_cnf.specs.Lits.{negation_of}
-use Rattle.sat_cnf.specs.Models.{HasNoModel, clause_value, lit_value}
+use Rattle.sat_cnf.specs.Models.{HasNoModel, Satisfies, clause_value, lit_value}
 use Rattle.sat_proof.specs.Propagation.{IsFalse, IsFalsified, IsUnit, Refutes}
 use Rattle.sat_proof.specs.Refutations.{AreGood, EndsEmpty, Follows, IsRefutation, held_with, hinted}
 use Rattle.sat_proof.specs.declared.step.Step.{Step}
@@ -60,7 +60,7 @@ module _ (set : List Bool) where
   falsified-false known clause h f =
       list_any_none (lit_value set) clause (All-weaker (IsFalse known) (λ lit. lit_value set lit ≡ false) (λ lit. false-lit known lit h) clause f)
 
-  unit-true : (known clause : List Lit) (lit : Lit) → AreTrue known → IsUnit known clause lit → clause_value set clause ≡ true → lit_value set lit ≡ true
+  pub unit-true : (known clause : List Lit) (lit : Lit) → AreTrue known → IsUnit known clause lit → clause_value set clause ≡ true → lit_value set lit ≡ true
   unit-true known clause lit h unit holds =
       ⊎_elim (λ e. e)
       (λ no. absurd (
@@ -107,6 +107,16 @@ module _ (set : List Bool) where
       let holds = follows-true (held_with clauses (take n steps)) g.0 before g.2 in
       rw (held-next clauses steps n g.0 g.1)
       (All-push (λ c. clause_value set c ≡ true) (held_with clauses (take n steps)) g.0.clause before holds)
+
+-- a set that satisfies the clauses makes the clauses of good steps true
+pub good-true : (set : List Bool) (clauses : List (List Lit)) (steps : List Step) → AreGood clauses steps → Satisfies set clauses → All (λ step. clause_value set step.clause ≡ true) steps
+good-true set clauses steps good satisfied =
+    let all = AllPass-from_list_all (clause_value set) clauses satisfied in
+    λ place other below.
+    let g = good place below in
+    let before = steps-true set clauses steps good all place (omega arith) in
+    let holds = follows-true set (held_with clauses (take place steps)) g.0 before g.2 in
+    subst (λ s. clause_value set s.clause ≡ true) (sym (get_or_from_slice_get steps place g.0 other g.1)) holds
 
 pub refutation-sound : (clauses : List (List Lit)) (steps : List Step) → IsRefutation clauses steps → HasNoModel clauses
 refutation-sound clauses steps r set satisfied =

@@ -17,9 +17,10 @@
 //! ```
 #![tactic(auto)]
 
-ghost use Rattle.std.specs.Prelude.{◌≡◌, ℕ, ◌+◌, ◌<◌, ◌≤◌, ◌^◌, ◌↔◌, List, length, IsTrue, IfOk};
+ghost use Rattle.std.specs.Prelude.{◌≡◌, ℕ, ◌+◌, ◌<◌, ◌≤◌, ◌^◌, ◌↔◌, Bool, true, List, length, All, IsTrue, IfOk};
 ghost use Rattle.sat_cnf.specs.declared.lit.Lit.{Lit};
-ghost use Rattle.sat_cnf.specs.Models.{HasNoModel};
+ghost use Rattle.sat_cnf.specs.Models.{HasNoModel, Satisfies, clause_value, lit_value};
+ghost use Rattle.sat_proof.specs.Propagation.{IsUnit};
 ghost use Rattle.sat_proof.specs.Refutations.{AreGood, AreWithin, IsRefutation};
 ghost use Rattle.sat_proof.specs.Trimming.{IsTrimmed};
 ghost use Rattle.sat_proof.specs.declared.step.Step.{Step};
@@ -89,4 +90,13 @@ pub fn trim(alloc: Global, clauses: &Clauses, steps: &[Step]) -> Result<Vec<Step
 /// A law: where steps refute clauses, no set of variables satisfies all of them.
 pub fn a_refutation_leaves_no_model()
     ensures { (clauses : List (List Lit)) (steps : List Step) → IsRefutation clauses steps → HasNoModel clauses }
+{}
+
+/// A law: a set of variables that satisfies clauses makes true what follows from them by unit propagation: the unit of a
+/// clause where all literals known so far are true, and the clause of each good step.
+pub fn what_follows_is_true()
+    ensures units { (set : List Bool) (known clause : List Lit) (lit : Lit) → All (λ l. lit_value set l ≡ true) known → IsUnit known clause lit
+        → clause_value set clause ≡ true → lit_value set lit ≡ true }
+    ensures steps { (set : List Bool) (clauses : List (List Lit)) (steps : List Step) → AreGood clauses steps → Satisfies set clauses
+        → All (λ step. clause_value set step.clause ≡ true) steps }
 {}
