@@ -1,0 +1,14 @@
+use Rattle.std.proofs.Common.{◌≤◌, length}
+use Rattle.sat_proof.specs.Refutations.{held_with}
+use Rattle.sat_core.specs.Analysing.{IsAnalysed}
+use Rattle.sat_core.proofs.conflict.learn_from.Given as goal
+
+-- the entries from the place on were looked at
+abbrev pub invariant-loop-place : goal.invariant-loop-place
+invariant-loop-place l = record {
+  within : l.place ≤ length l.trail.entries;
+  analysed : IsAnalysed (held_with l.clauses.list l.steps) l.trail.entries l.place l.analysis;
+}
+
+abbrev pub decreases-loop-place : goal.decreases-loop-place
+decreases-loop-place l = l.place

@@ -1,0 +1,9 @@
+pub mod Trails
+pub mod Assigning
+pub mod Watching
+pub mod Searching
+pub mod Analysis
+pub mod Outcomes
+pub mod Analysing
+pub mod Walking
+pub mod Solving
