@@ -5,6 +5,7 @@ use Rattle.std.proofs.lemmas.Bool.{cond-true, cond-false, eq-eqb, ne_eqb}
 use Rattle.reg_reader.specs.Markup.{IsReference, IsCharacters, HasCharacters, AreCharactersOf}
 use Rattle.reg_reader.specs.Characters.{Undone, after_progress, with_byte, undone}
 use Rattle.reg_reader.specs.References.{progress_of}
+use Rattle.reg_reader.specs.Shown.{characters_of}
 use Rattle.reg_reader.specs.Within.{Within}
 use Rattle.reg_reader.specs.declared.markup.Part.{Part}
 use Rattle.reg_reader.proofs.WithinLemmas.{characters-le, reference-lt}
@@ -54,7 +55,7 @@ module _ (b : List ℕ) (from : ℕ) where
         ∙ undone-more b from (k - 1) (Some j, text) (None, text ++ value ∷ []) (omega arith) last
         (ap (λ x. after_progress j text (progress_of (slice_range b j x))) (let e : k - 1 + 1 ≡ k = omega arith in e) ∙ ap (after_progress j text) (reference-whole _ value is))
 
-  over-characters : {stop j : ℕ} {text : List ℕ} → IsCharacters b stop from j text → undone b from (j - from) ≡ (None, text)
+  pub over-characters : {stop j : ℕ} {text : List ℕ} → IsCharacters b stop from j text → undone b from (j - from) ≡ (None, text)
   over-characters IsCharacters.none = ap (undone b from) (let e : from - from ≡ 0 = omega arith in e)
   over-characters (IsCharacters.plain {j = j} {text = text} chars within less other amp) =
       undone-more b from j (None, text) (None, text ++ slice_index b j ∷ []) (characters-le chars) (over-characters chars)
@@ -65,6 +66,9 @@ module _ (b : List ℕ) (from : ℕ) where
 pub characters-undone : (b : List ℕ) (part : Part) (n : ℕ) (reference : Option ℕ) (text : List ℕ) → n ≡ part.to → IsUndone b part.from n reference text → AreCharactersOf b part text
 characters-undone b part n reference text e is stop other chars =
     ap (λ (x : Undone). x.1) (sym is.at ∙ ap (λ x. undone b part.from (x - part.from)) e ∙ over-characters b part.from chars)
+
+pub undone-value : (b : List ℕ) (part : Part) (n : ℕ) (reference : Option ℕ) (text : List ℕ) → n ≡ part.to → IsUndone b part.from n reference text → text ≡ characters_of b part
+undone-value b part n reference text e is = ap (λ (x : Undone). x.1) (sym is.at ∙ ap (λ x. undone b part.from (x - part.from)) e)
 
 pub part-le : (b : List ℕ) (part : Part) → HasCharacters b part → part.from ≤ part.to
 part-le b part has = characters-le has.2

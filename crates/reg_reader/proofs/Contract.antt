@@ -9,7 +9,7 @@ use Rattle.reg_reader.specs.declared.markup.Node.{Node}
 use Rattle.reg_reader.specs.declared.markup.MarkupFault.{MarkupFault}
 use Rattle.reg_reader.specs.declared.markup.MarkupFault.TheVariants as fault
 use Rattle.reg_reader.proofs.Running.{read-spells}
-use Rattle.reg_reader.proofs.Laws.{one-tree, bad-none, bad-last, deep-last}
+use Rattle.reg_reader.proofs.Outcomes.{one-tree, bad-none, bad-last, deep-last}
 use Rattle.reg_reader.proofs.Fronts.{bad-front, deep-shallow, deep-front}
 
 pub one : OneTree
@@ -19,10 +19,10 @@ pub only : (b : List ℕ) (r : Result Node MarkupFault) → IsRead b r → IfOk 
 only b (Ok root) read = λ most other spells. one-tree b most 32 other root spells (read-spells b root read)
 only b (Err f) read = tt
 
-stop-of : (b : List ℕ) (at : ℕ) → IsRead b (Err (fault.BadMarkup at)) → IsStop b at
+pub stop-of : (b : List ℕ) (at : ℕ) → IsRead b (Err (fault.BadMarkup at)) → IsStop b at
 stop-of b at read = record { within = read.0; front = bad-front b at read; last = bad-last b at read; none = bad-none b at read }
 
-deep-of : (b : List ℕ) (at : ℕ) → IsRead b (Err (fault.TooDeep at)) → IsTooDeep b at
+pub deep-of : (b : List ℕ) (at : ℕ) → IsRead b (Err (fault.TooDeep at)) → IsTooDeep b at
 deep-of b at read = let last = deep-last b at read in record { within = last.0; shallow = deep-shallow b at read; front = deep-front b at read; deep = last.1 }
 
 pub bad : (b : List ℕ) (r : Result Node MarkupFault) → IsRead b r → (at : ℕ) → r ≡ Err (fault.BadMarkup at) → IsStop b at
@@ -42,7 +42,7 @@ spelled b (Err fault.Memory) read root spells = inr refl
 -- ---- each fault comes exactly where it may
 
 -- what a front begins with is a front
-front-less : (most : ℕ) (b : List ℕ) (m n : ℕ) → m ≤ n → IsFrontWithin most (take n b) → IsFrontWithin most (take m b)
+pub front-less : (most : ℕ) (b : List ℕ) (m n : ℕ) → m ≤ n → IsFrontWithin most (take n b) → IsFrontWithin most (take m b)
 front-less most b m n le front =
     let regrouped : take m b ++ (drop m (take n b) ++ front.0) ≡ take n b ++ front.0 =
     sym (append_assoc (take m b) (drop m (take n b)) front.0)
@@ -50,18 +50,18 @@ front-less most b m n le front =
     ∙ ap (λ x. x ++ front.0) (take-append-drop m (take n b)) in
     (drop m (take n b) ++ front.0, front.1, subst (Spells most front.1) (sym regrouped) front.2)
 
-any-less : (b : List ℕ) (m n : ℕ) → m ≤ n → IsFront (take n b) → IsFront (take m b)
+pub any-less : (b : List ℕ) (m n : ℕ) → m ≤ n → IsFront (take n b) → IsFront (take m b)
 any-less b m n le front = (front.0, front-less front.0 b m n le front.1)
 
-stop-before : (b : List ℕ) (at other : ℕ) → IsStop b at → IsStop b other → at < other → ⊥
+pub stop-before : (b : List ℕ) (at other : ℕ) → IsStop b at → IsStop b other → at < other → ⊥
 stop-before b at other first second lt =
     let within : other ≤ length b = second.within in
     first.last (omega arith) (32, front-less 32 b (at + 1) other (omega arith) second.front)
 
-deep-before : (b : List ℕ) (at other : ℕ) → IsTooDeep b at → IsTooDeep b other → at < other → ⊥
+pub deep-before : (b : List ℕ) (at other : ℕ) → IsTooDeep b at → IsTooDeep b other → at < other → ⊥
 deep-before b at other first second lt = first.deep (front-less 32 b (at + 2) (other + 1) (omega arith) second.shallow)
 
-one-fault : (b : List ℕ) (at other : ℕ) → IsStop b at → IsTooDeep b other → ⊥
+pub one-fault : (b : List ℕ) (at other : ℕ) → IsStop b at → IsTooDeep b other → ⊥
 one-fault b at other stop deeper =
     let within : other + 2 ≤ length b = deeper.within in
     elim (cases_lt at (other + 2)) [
@@ -69,7 +69,7 @@ one-fault b at other stop deeper =
       | inr ge ↦ deeper.deep (front-less 32 b (other + 2) at ge stop.front)
     ]
 
-same-place : (at other : ℕ) → (at < other → ⊥) → (other < at → ⊥) → other ≡ at
+pub same-place : (at other : ℕ) → (at < other → ⊥) → (other < at → ⊥) → other ≡ at
 same-place at other first second = omega arith
 
 pub stops : (b : List ℕ) (r : Result Node MarkupFault) → IsRead b r → (at : ℕ) → IsStop b at → (r ≡ Err (fault.BadMarkup at)) ⊎ (r ≡ Err fault.Memory)

@@ -24,7 +24,7 @@ use Rattle.reg_reader.proofs.Complete.{text_state, value_state, text-carries, va
 use Rattle.reg_reader.proofs.Running.{run-reached, run-within, run-next}
 use Rattle.reg_reader.proofs.WithinLemmas.{opens-more}
 use Rattle.reg_reader.proofs.Agree.{agree-front, run-agree, run-more}
-use Rattle.reg_reader.proofs.Laws.{deep-behind}
+use Rattle.reg_reader.proofs.Outcomes.{deep-behind}
 use Rattle.reg_reader.proofs.Endings.{Ends, ends-front, append-nil, AllOpen, ends-open, ends-markup, markup-root, markup-comment, ends-slash, ends-end-white, ends-end-name, ends-tag, ends-value-end, ends-name, close-mark, ends-quote, ends-equals, ends-attribute, ends-partial, ends-comment, ends-outside, ends-between, ends-declaration}
 
 -- the root isn't there while elements are open

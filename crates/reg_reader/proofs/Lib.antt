@@ -9,7 +9,7 @@ pub mod WithinLemmas
 pub mod Running
 pub mod ReferenceFronts
 pub mod Tokens
-pub mod Laws
+pub mod Outcomes
 pub mod Endings
 pub mod ReferenceEnds
 pub mod Fronts
@@ -17,3 +17,8 @@ pub mod Contract
 pub mod ReferencePlaces
 pub mod CharactersLemmas
 pub mod Parts
+pub mod ViewLemmas
+pub mod LawLemmas
+pub mod PlaceLemmas
+pub mod PassingLemmas
+pub mod TagLemmas

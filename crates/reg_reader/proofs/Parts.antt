@@ -12,10 +12,10 @@ use Rattle.reg_reader.specs.declared.markup.Node.TheVariants as node
 use Rattle.reg_reader.proofs.Sound.{each-le}
 use Rattle.reg_reader.proofs.WithinLemmas.{name-le, attributes-within, characters-le, comment-le, end-le, element-le, pieces-le}
 
-element-out : (at : ℕ) (name : Part) (attributes : List (Part × Part)) (children : List Node) → out-Node (node.Element at name attributes children) ≡ Node-F.Element at name attributes children
+pub element-out : (at : ℕ) (name : Part) (attributes : List (Part × Part)) (children : List Node) → out-Node (node.Element at name attributes children) ≡ Node-F.Element at name attributes children
 element-out at name attributes children = ap out-Node (sym (node.rolls-Element at name attributes children)) ∙ out-roll-Node (Node-F.Element at name attributes children)
 
-chars-out : (part : Part) → out-Node (node.Chars part) ≡ Node-F.Chars part
+pub chars-out : (part : Part) → out-Node (node.Chars part) ≡ Node-F.Chars part
 chars-out part = ap out-Node (sym (node.rolls-Chars part)) ∙ out-roll-Node (Node-F.Chars part)
 
 made : (b : List ℕ) (tree : Node) (layer : Node-F Node) → out-Node tree ≡ layer → IsNodeThere b layer → All (HasParts b) (children_of layer) → HasParts b tree

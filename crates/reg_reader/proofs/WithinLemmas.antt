@@ -66,6 +66,9 @@ tag-bounds {j = j} {attributes = attributes} tag =
       attributes_to = all-more tag.end j (each-le tag.white) attributes listed.1;
     }
 
+pub tag-lt : {b : List ℕ} {i j : ℕ} {name : Part} {attributes : List (Part × Part)} → IsStartTag b i name attributes j → i < j
+tag-lt tag = (tag-bounds tag).at
+
 pub end-le : {b : List ℕ} {i j : ℕ} {name : Part} → IsEndTag b name i j → i ≤ j
 end-le tag = let sums = copy-sums tag.named in omega (arith, sums.0, sums.1, each-le tag.white, tag.whole)
 

@@ -1,4 +1,4 @@
--- Characters with their references undone, byte by byte. No public contract names it.
+-- Characters with their references undone, byte by byte: the law `CharactersAreUndone` says by the rule what they are.
 use Rattle.std.specs.Prelude.{ℕ, zero, suc, ◌+◌, ◌==◌, List, [], ◌∷◌, ◌++◌, slice_index, slice_range, Option, Some, None, if◌then◌else◌}
 use Rattle.reg_reader.specs.References.{progress_of}
 use Rattle.reg_reader.specs.declared.reference.Progress.{Progress}

@@ -1,7 +1,11 @@
 pub mod Bounds
 pub mod Characters
+pub mod Laws
 pub mod Machine
 pub mod Markup
 pub mod Reading
 pub mod References
+pub mod Shown
+pub mod ViewCodes
+pub mod Views
 pub mod Within

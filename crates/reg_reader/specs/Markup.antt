@@ -1,6 +1,6 @@
 -- The markup of the Vulkan API registry (the registry manual, `registry.html`), in the profile that this project reads:
 -- elements, attributes, characters with references, and comments. All is said of places in one text.
-use Rattle.std.specs.Prelude.{◌≡◌, ℕ, ◌+◌, ◌*◌, ◌-◌, ◌<◌, ◌≤◌, ◌⊎◌, Bool, true, false, ◌||◌, ◌&&◌, ◌==◌, nat_le, List, [], ◌∷◌, ◌++◌, length, take, slice_index, slice_index_or, slice_range, codes, fold, if◌then◌else◌, All}
+use Rattle.std.specs.Prelude.{◌≡◌, ℕ, ◌+◌, ◌<◌, ◌≤◌, ◌⊎◌, Bool, true, false, ◌||◌, ◌==◌, List, [], ◌∷◌, ◌++◌, length, take, slice_index, slice_index_or, slice_range, codes, if◌then◌else◌, All}
 use Rattle.std.specs.List.{list_all, list_any}
 use Rattle.std.specs.Str.{bytes_eq}
 use Rattle.vkb_bytes.specs.Bytes.{is_letter, is_digit, is_white, is_word_byte}

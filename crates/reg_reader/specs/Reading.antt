@@ -1,9 +1,11 @@
 -- What the reader's calls leave. No public contract names it.
-use Rattle.std.specs.Prelude.{◌≡◌, ℕ, ◌-◌, ◌<◌, ◌≤◌, List, length, reverse, Some, Result, Ok, Err}
+use Rattle.std.specs.Prelude.{◌≡◌, ℕ, ◌-◌, ◌<◌, ◌≤◌, List, length, reverse, Bool, not, Option, Some, None, is_some, if◌then◌else◌, Result, Ok, Err}
+use Rattle.memchr.specs.Find.{is_byte3}
 use Rattle.reg_reader.specs.Machine.{State, Move, Next, Bad, Deep, step, run}
 use Rattle.reg_reader.specs.declared.markup.Node.{Node}
 use Rattle.reg_reader.specs.declared.markup.MarkupFault.{MarkupFault}
 use Rattle.reg_reader.specs.declared.markup.MarkupFault.TheVariants as fault
+use Rattle.reg_reader.specs.declared.phase.Phase.{Phase}
 use Rattle.reg_reader.specs.declared.phase.Phase.TheVariants as phase
 use Rattle.reg_reader.specs.declared.reader.Open.{Open}
 use Rattle.reg_reader.specs.declared.reader.Reader.{Reader}
@@ -23,6 +25,28 @@ Gives (Err stop.Memory) move new = Unit {0}
 -- the byte at a place can't go on, or the text ends there and nothing is whole
 abbrev pub StopsAt : List ℕ → ℕ → State → Type 0
 StopsAt b at s = (at < length b → step 32 b at s ≡ Bad) × (at ≡ length b → (root : Node) → s.phase ≡ phase.Outside → s.root ≡ Some root → ⊥)
+
+-- the byte that ends the characters that are being read, where no reference is open in them
+abbrev pub ending_of : Phase → Option ℕ
+ending_of phase.Outside = None
+ending_of (phase.Text run) = if is_some run.reference then None else Some 60
+ending_of phase.Markup = None
+ending_of (phase.Comment from) = None
+ending_of phase.Declaration = None
+ending_of (phase.Name from) = None
+ending_of phase.Tag = None
+ending_of (phase.Attribute from) = None
+ending_of (phase.Equals name) = None
+ending_of (phase.Quote name) = None
+ending_of (phase.Value name quote run) = if is_some run.reference then None else Some quote
+ending_of phase.ValueEnd = None
+ending_of phase.Slash = None
+ending_of (phase.EndName from) = None
+ending_of phase.EndWhite = None
+
+-- a byte of characters that stands for itself, before one that ends them
+abbrev pub is_plain : ℕ → ℕ → Bool
+is_plain ending byte = not (is_byte3 60 38 ending byte)
 
 -- what a whole reading answered, by the run over the bytes
 abbrev pub IsRead : List ℕ → Result Node MarkupFault → Type 0

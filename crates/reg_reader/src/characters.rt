@@ -1,6 +1,7 @@
 ghost use Rattle.std.specs.Prelude.{◌≡◌, ◌+◌, ◌<◌, ◌^◌, IfOk, length};
 ghost use Rattle.reg_reader.specs.Markup.{HasCharacters, AreCharactersOf};
 ghost use Rattle.reg_reader.specs.Characters.{with_byte};
+ghost use Rattle.reg_reader.specs.Shown.{characters_of};
 ghost use Rattle.reg_reader.specs.Within.{Within};
 
 use crate::markup::Part;
@@ -42,7 +43,8 @@ fn put_byte(
 pub fn undo(alloc: Global, bytes: &[u8], part: Part) -> Result<Vec<u8>, Memory>
     requires part { HasCharacters bytes.now part }
     requires small { length bytes.now < 2 ^ 32 }
-    ensures { IfOk result (λ text. AreCharactersOf bytes.now part text.items) }
+    ensures meaning { IfOk result (λ text. AreCharactersOf bytes.now part text.items) }
+    ensures value { IfOk result (λ text. text.items ≡ characters_of bytes.now part) }
 {
     let mut text = Vec::new(alloc);
     let mut reference = None;

@@ -1,6 +1,21 @@
 //! The markup of the Vulkan API registry (the registry manual, `registry.html`): the tree that the bytes spell, or the
 //! place where they stop. What is read is a profile of XML: elements, attributes, characters with references, comments
 //! and a declaration.
+//!
+//! The tree has the places of its parts in the bytes, and [`Element`] shows what stands there:
+//!
+//! ```text
+//! <types>A<type name="VkA"/>&lt;<comment>B</comment></types>
+//! 0       8                 26
+//!
+//! let tree = read_markup(alloc, bytes)?;
+//! let types = Element::root(bytes, &tree);
+//! types.name()                              // types
+//! types.text(alloc)?                        // A<, without the comment
+//! let mut children = types.children();
+//! let one = children.next();                // the element at byte 8
+//! one.attribute(alloc, b"name")?            // VkA
+//! ```
 #![tactic(auto)]
 
 ghost use Rattle.std.specs.Prelude.{◌≡◌, ◌<◌, ◌^◌, ◌⊎◌, ℕ, length, Ok, Err, IfOk};
@@ -11,13 +26,21 @@ use std::alloc::Global;
 
 mod characters;
 mod decide;
+mod laws;
 mod markup;
+mod passing;
 mod phase;
 mod reader;
 mod reading;
 mod reference;
+mod view;
 
+pub use laws::{
+    attributes_differ, characters_are_no_longer, characters_are_undone, fronts_end_at_the_stop,
+    one_answer, one_element, places_rise,
+};
 pub use markup::{MarkupFault, Node, Part};
+pub use view::{Children, Element};
 pub use vkb_bytes::Memory;
 
 /// Reads the tree that the bytes spell, in one pass and in memory in proportion to their number. Places are counted in
@@ -69,3 +92,5 @@ pub fn parts_are_there()
 
 #[cfg(test)]
 mod tests;
+#[cfg(test)]
+mod view_tests;

@@ -3,6 +3,7 @@ ghost use Rattle.reg_reader.specs.Machine.{run};
 ghost use Rattle.reg_reader.specs.Reading.{IsRead, IsFaultAt, IsEndOf, state_of};
 
 use crate::markup::{MarkupFault, Node};
+use crate::passing::passed;
 use crate::phase::Phase;
 use crate::reader::{Reader, Stop};
 use std::alloc::Global;
@@ -42,10 +43,12 @@ pub fn read(alloc: Global, bytes: &[u8]) -> Result<Node, MarkupFault>
 {
     let mut reader = Reader::new(alloc);
     let end = bytes.len() as u32;
-    for n in 0..end {
+    let mut n = 0;
+    while n < end {
         if let Err(stop) = reader.step(alloc, bytes, n) {
             return Err(fault_at(stop, n));
         }
+        n = passed(&reader, bytes, n + 1);
     }
     finish(reader, end)
 }

@@ -1,5 +1,5 @@
 use Rattle.std.proofs.Common.{arith}
-use Rattle.reg_reader.proofs.CharactersLemmas.{step-undone, characters-undone, part-le, part-within}
+use Rattle.reg_reader.proofs.CharactersLemmas.{step-undone, characters-undone, undone-value, part-le, part-within}
 use Rattle.reg_reader.proofs.characters.undo.Goals as goal
 
 pub put_byte-requires-clause-within : goal.put_byte-requires-clause-within
@@ -9,7 +9,12 @@ pub loop-n-preserved : goal.loop-n-preserved
 loop-n-preserved c =
     step-undone c.args.bytes.now c.args.part.from c.loop-n.n c.loop-n.reference _ c.loop-n.text.items _ (omega arith) c.loop-n.invariant c.in_ok-reference.ensures.open c.in_ok-reference.ensures.text c.in_ok-reference.ensures.place
 
-pub returns : goal.returns
-returns c =
+pub returns-clause-meaning : goal.returns-clause-meaning
+returns-clause-meaning c =
     characters-undone c.args.bytes.now c.args.part c.loop-n.n c.loop-n.reference c.loop-n.text.items
+    (omega (arith, part-le c.args.bytes.now c.args.part c.requires.part)) c.loop-n.invariant
+
+pub returns-clause-value : goal.returns-clause-value
+returns-clause-value c =
+    undone-value c.args.bytes.now c.args.part c.loop-n.n c.loop-n.reference c.loop-n.text.items
     (omega (arith, part-le c.args.bytes.now c.args.part c.requires.part)) c.loop-n.invariant
