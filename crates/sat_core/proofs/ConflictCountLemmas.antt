@@ -1,10 +1,11 @@
 -- Counting the marked entries under a decision.
-use Rattle.std.proofs.Common.{◌≡◌, ℕ, zero, suc, ◌+◌, ◌-◌, ◌<◌, ◌≤◌, Bool, true, false, List, [], ◌∷◌, length, set, Some, slice_get, slice_index_or, refl, ◌∙◌, ◌⊎◌, inl, inr, ⊎_elim, arith}
+use Rattle.std.proofs.Common.{◌≡◌, min, ℕ, zero, suc, ◌+◌, ◌-◌, ◌<◌, ◌≤◌, Bool, true, false, List, [], ◌∷◌, length, set, Some, slice_get, slice_index_or, refl, ◌∙◌, ◌⊎◌, inl, inr, ⊎_elim, arith}
 use Rattle.std.proofs.lemmas.Bool.Decides.{eqb_tells}
 use Rattle.std.proofs.lemmas.List.{length-set}
 use Rattle.std.proofs.lemmas.Option.{same_Some, slice_get_within}
 use Rattle.sat_core.specs.declared.entry.Entry.{Entry}
 use Rattle.sat_core.specs.Analysing.{Found, IsCounted, IsMarked, marked_under, weight_of}
+use Rattle.sat_core.proofs.ConflictMarkLemmas.{marked-set_cases, marked-unset}
 
 pub weight-one : (decision : ℕ) (entry : Entry) → entry.decision ≡ decision → weight_of decision entry true ≡ 1
 weight-one decision entry e = ⊎_elim (λ p. rw p.0 refl) (λ p. absurd (p.1 e)) (eqb_tells entry.decision decision)
@@ -65,6 +66,14 @@ module _ (entries : List Entry) (old : Found) (place : ℕ) (entry : Entry) (fou
   within : place < length old.marks
   within = omega (arith, h.each, slice_get_within entries place entry found)
 
+  -- a mark that is left was there before
+  left : (other : ℕ) → IsMarked (set old.marks place false) other → old.lowest ≤ other
+  left other m = h.above other (marked-unset old.marks place other within m).0
+
+  -- a new mark is above the lower of two places
+  raised : (other : ℕ) → IsMarked (set old.marks place true) other → min old.lowest place ≤ other
+  raised other m = ⊎_elim (λ was. omega (arith, h.above other was)) (λ e. omega (arith, e)) (marked-set_cases old.marks place other m)
+
   pub unmark-last : IsMarked old.marks place → entry.decision ≡ old.last
       → (0 < old.pending) × IsCounted entries (record old { marks = set old.marks place false; pending = old.pending - 1 })
   unmark-last marked e =
@@ -74,6 +83,7 @@ module _ (entries : List Entry) (old : Found) (place : ℕ) (entry : Entry) (fou
         record {
           each = length-set old.marks place false ∙ h.each;
           count = omega (arith, some, weighs, h.count, marked-set old.last entries old.marks place entry false found within);
+          above = left;
         },
       )
 
@@ -83,25 +93,27 @@ module _ (entries : List Entry) (old : Found) (place : ℕ) (entry : Entry) (fou
       record {
         each = length-set old.marks place false ∙ h.each;
         count = omega (arith, weighs, h.count, marked-set old.last entries old.marks place entry false found within);
+        above = left;
       }
 
   pub mark-last : slice_index_or old.marks place false ≡ false → entry.decision ≡ old.last
-      → (old.pending < length entries) × IsCounted entries (record old { marks = set old.marks place true; pending = old.pending + 1 })
+      → (old.pending < length entries) × IsCounted entries (record old { marks = set old.marks place true; pending = old.pending + 1; lowest = min old.lowest place })
   mark-last unmarked e =
       let weighs : weight_of old.last entry (slice_index_or old.marks place false) ≡ 0 = rw unmarked refl in
       let one = weight-one old.last entry e in
       let next : marked_under old.last entries (set old.marks place true) ≡ old.pending + 1
       = omega (arith, one, weighs, h.count, marked-set old.last entries old.marks place entry true found within) in (
         omega (arith, next, marked-most old.last entries (set old.marks place true), length-set old.marks place true, h.each),
-        record { each = length-set old.marks place true ∙ h.each; count = omega (arith, next) },
+        record { each = length-set old.marks place true ∙ h.each; count = omega (arith, next); above = raised },
       )
 
   pub mark-other : slice_index_or old.marks place false ≡ false → (entry.decision ≡ old.last → ⊥)
-      → IsCounted entries (record old { marks = set old.marks place true })
+      → IsCounted entries (record old { marks = set old.marks place true; lowest = min old.lowest place })
   mark-other unmarked ne =
       let weighs : weight_of old.last entry (slice_index_or old.marks place false) ≡ 0 = rw unmarked refl in
       let none = weight-none old.last entry ne in
       record {
         each = length-set old.marks place true ∙ h.each;
         count = omega (arith, none, weighs, h.count, marked-set old.last entries old.marks place entry true found within);
+        above = raised;
       }

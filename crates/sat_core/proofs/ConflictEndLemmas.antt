@@ -22,8 +22,8 @@ below-or n m = grind arith
 
 module _ (vars : ℕ) (held : List (List Lit)) (entries : List Entry) (trail : IsTrail vars held entries) where
   -- the entries that make the literals of the conflict false are marked
-  module _ (conflict : ℕ) (known : conflict < length held) (struck : IsConflict entries (hinted held conflict)) (marks : List Bool) (pending : ℕ)
-      (counted : IsCounted entries (record { last = decisions_of entries; marks = marks; pending = pending; clause = []; hints = []; back = 0 }))
+  module _ (conflict : ℕ) (known : conflict < length held) (struck : IsConflict entries (hinted held conflict)) (marks : List Bool) (pending lowest : ℕ)
+      (counted : IsCounted entries (record { last = decisions_of entries; marks = marks; pending = pending; lowest = lowest; clause = []; hints = []; back = 0 }))
       (all : (lit : Lit) → Contains (hinted held conflict) lit → (other : ℕ) × DeniesAt entries other lit × IsMarked marks other) where
     marked-within : (other : ℕ) → IsMarked marks other → other < length entries
     marked-within other m =
@@ -42,10 +42,10 @@ module _ (vars : ℕ) (held : List (List Lit)) (entries : List Entry) (trail : I
         omega (arith, counted.count, marked-positive (decisions_of entries) entries marks other twin found m under_last)
 
     pub analysed-begin : IsAnalysed held entries (length entries)
-        (record { last = decisions_of entries; marks = marks; pending = pending; clause = []; hints = conflict ∷ []; back = 0 })
+        (record { last = decisions_of entries; marks = marks; pending = pending; lowest = lowest; clause = []; hints = conflict ∷ []; back = 0 })
     analysed-begin = record {
       last = refl;
-      counted = record { each = counted.each; count = counted.count };
+      counted = record { each = counted.each; count = counted.count; above = counted.above };
       before = marked-within;
       known = All-push (λ hint. hint < length held) [] conflict (All-nil (λ hint. hint < length held)) known;
       refuted = λ lits g. inl (All-of (IsFalse lits) (hinted held conflict)
@@ -112,18 +112,22 @@ module _ (vars : ℕ) (held : List (List Lit)) (entries : List Entry) (trail : I
     }
 
   -- what is found first
-  module _ (a : Found) (empty : a ≡ record { last = decisions_of entries; marks = a.marks; pending = 0; clause = []; hints = []; back = 0 })
+  module _ (a : Found) (empty : a ≡ record { last = decisions_of entries; marks = a.marks; pending = 0; lowest = a.lowest; clause = []; hints = []; back = 0 })
       (each : length a.marks ≡ length entries) (none : (place : ℕ) → ¬ IsMarked a.marks place) where
     pub new-counted : IsCounted entries a
-    new-counted = record { each = each; count = ap (λ (f : Found). f.pending) empty ∙ sym (marked-none a.last entries a.marks none) }
+    new-counted = record {
+      each = each;
+      count = ap (λ (f : Found). f.pending) empty ∙ sym (marked-none a.last entries a.marks none);
+      above = λ place m. absurd (none place m);
+    }
 
     pub begin-step : (conflict : ℕ) → conflict < length held → IsConflict entries (hinted held conflict) → (m : Found)
         → Marks entries (hinted held conflict) None a m → IsAnalysed held entries (length entries) (record m { hints = m.hints ++ conflict ∷ [] })
     begin-step conflict known struck m k =
-        let whole : m ≡ record { last = decisions_of entries; marks = m.marks; pending = m.pending; clause = []; hints = []; back = 0 }
-        = k.same ∙ ap (λ (f : Found). record f { marks = m.marks; pending = m.pending }) empty in
+        let whole : m ≡ record { last = decisions_of entries; marks = m.marks; pending = m.pending; lowest = m.lowest; clause = []; hints = []; back = 0 }
+        = k.same ∙ ap (λ (f : Found). record f { marks = m.marks; pending = m.pending; lowest = m.lowest }) empty in
         subst (λ (f : Found). IsAnalysed held entries (length entries) (record f { hints = f.hints ++ conflict ∷ [] })) (sym whole)
-        (analysed-begin conflict known struck m.marks m.pending (subst (IsCounted entries) whole k.counted)
+        (analysed-begin conflict known struck m.marks m.pending m.lowest (subst (IsCounted entries) whole k.counted)
         (λ lit c. ⊎_elim (λ e. absurd (cc)) (λ d. d) (k.all lit c)))
 
 pub conflict-denied : (entries : List Entry) (clause : List Lit) → IsConflict entries clause → All (λ lit. ◌≡◌ {A = Option Lit} None (Some lit) ⊎ IsFalse (lits_of entries) lit) clause

@@ -24,9 +24,31 @@ zero-or n = grind arith
 either-max : (n a b : ℕ) → n ≡ max a b → (n ≡ a) ⊎ (n ≡ b)
 either-max n a b e = grind arith
 
+denied-down : (entries : List Entry) (place lower : ℕ) (clause : List Lit) → lower ≤ place → All (IsDeniedFrom entries place) clause → All (IsDeniedFrom entries lower) clause
+denied-down entries place lower clause le h =
+    All-weaker (IsDeniedFrom entries place) (IsDeniedFrom entries lower) (λ lit d. (d.0, omega (arith, d.1, le), d.2)) clause h
+
 denied-lower : (entries : List Entry) (place : ℕ) (clause : List Lit) → All (IsDeniedFrom entries (place + 1)) clause → All (IsDeniedFrom entries place) clause
-denied-lower entries place clause h =
-    All-weaker (IsDeniedFrom entries (place + 1)) (IsDeniedFrom entries place) (λ lit d. (d.0, omega (arith, d.1), d.2)) clause h
+denied-lower entries place clause h = denied-down entries (place + 1) place clause (omega arith) h
+
+-- no entry is marked that is still ahead
+pub analysed-end : (held : List (List Lit)) (entries : List Entry) (place : ℕ) (f : Found) → IsAnalysed held entries place f → place ≤ f.lowest → IsAnalysed held entries 0 f
+analysed-end held entries place f h le = record {
+  last = h.last;
+  counted = h.counted;
+  before = λ other m. absurd (omega (arith, le, h.before other m, h.counted.above other m));
+  known = h.known;
+  refuted = λ lits g. h.refuted lits (record {
+    marked = g.marked;
+    denied = g.denied;
+    only = λ lit c. ⊎_elim (λ b. inl (before-later entries 0 place lit (omega arith) b)) (λ d. inr d) (g.only lit c);
+  });
+  denied = denied-down entries place 0 f.clause (omega arith) h.denied;
+  none = h.none;
+  searched = h.searched;
+  earlier = h.earlier;
+  greatest = h.greatest;
+}
 
 module _ (vars : ℕ) (held : List (List Lit)) (entries : List Entry) (trail : IsTrail vars held entries) (place : ℕ) (f : Found)
     (h : IsAnalysed held entries (place + 1) f) where
@@ -75,8 +97,8 @@ module _ (vars : ℕ) (held : List (List Lit)) (entries : List Entry) (trail : I
     )
 
     -- an entry that its reason takes the place of
-    module _ (reason : ℕ) (is : IsReason held (take place entries) entry.lit entry.decision (Some reason)) (marks : List Bool) (pending : ℕ)
-        (counted : IsCounted entries (record f { marks = marks; pending = pending })) (more : rest ≤ pending)
+    module _ (reason : ℕ) (is : IsReason held (take place entries) entry.lit entry.decision (Some reason)) (marks : List Bool) (pending lowest : ℕ)
+        (counted : IsCounted entries (record f { marks = marks; pending = pending; lowest = lowest })) (more : rest ≤ pending)
         (stay : (other : ℕ) → other ≢ place → IsMarked f.marks other → IsMarked marks other)
         (only : (other : ℕ) → IsMarked marks other → (IsMarked f.marks other × (other ≢ place))
         ⊎ ((lit : Lit) × Contains (hinted held reason) lit × ¬ (Some entry.lit ≡ Some lit) × DeniesAt entries other lit))
@@ -119,22 +141,23 @@ module _ (vars : ℕ) (held : List (List Lit)) (entries : List Entry) (trail : I
             (all l c));
       }
 
-      nothing : 0 < f.last → f.pending ≡ 0 → entry.decision ≡ 0 → pending ≡ 0
-      nothing some none low =
+      -- under earlier decisions none becomes pending
+      nothing : f.pending ≡ 0 → entry.decision < f.last → pending ≡ 0
+      nothing none low =
           ⊎_elim (λ z. z)
           (λ positive.
           let (other, denier, there, m, under) = marked-some f.last entries marks (omega (arith, positive, counted.count)) in
           ⊎_elim
           (λ was. absurd (omega (arith, none, h.counted.count, marked-positive f.last entries f.marks other denier there was.0 under)))
-          (λ n. absurd (omega (arith, some, low, under, rising vars held entries trail other place denier entry there found (new-before other n))))
+          (λ n. absurd (omega (arith, low, under, rising vars held entries trail other place denier entry there found (new-before other n))))
           (only other m))
           (zero-or pending)
 
-      pub analysed-resolve : (entry.decision ≡ 0) ⊎ ((entry.decision ≡ f.last) × (0 < rest))
-          → IsAnalysed held entries place (record f { marks = marks; pending = pending; hints = f.hints ++ reason ∷ [] })
+      pub analysed-resolve : (entry.decision ≡ 0) ⊎ ((entry.decision < f.last) ⊎ ((entry.decision ≡ f.last) × (0 < rest)))
+          → IsAnalysed held entries place (record f { marks = marks; pending = pending; lowest = lowest; hints = f.hints ++ reason ∷ [] })
       analysed-resolve resolves = record {
         last = h.last;
-        counted = record { each = counted.each; count = counted.count };
+        counted = record { each = counted.each; count = counted.count; above = counted.above };
         before = all-before;
         known = All-push (λ hint. hint < length held) f.hints reason h.known is.1;
         refuted = λ lits g.
@@ -143,11 +166,12 @@ module _ (vars : ℕ) (held : List (List Lit)) (entries : List Entry) (trail : I
         denied = denied-lower entries place f.clause h.denied;
         none = h.none;
         searched = λ some.
+            let earlier : (entry.decision < f.last) ⊎ ((entry.decision ≡ f.last) × (0 < rest)) = ⊎_elim (λ z. inl (omega (arith, z, some))) (λ r. r) resolves in
             ⊎_elim
-            (λ p. inl (⊎_elim (λ z. omega (arith, more, taken, p.0, weight-none f.last entry (λ e. omega (arith, e, z, some)))) (λ q. omega (arith, more, q.1)) resolves, p.1))
+            (λ p. inl (⊎_elim (λ low. omega (arith, more, taken, p.0, weight-none f.last entry (λ e. omega (arith, e, low)))) (λ q. omega (arith, more, q.1)) earlier, p.1))
             (λ p.
-            let low : entry.decision ≡ 0 = ⊎_elim (λ z. z) (λ q. absurd (omega (arith, taken, p.0, weight-one f.last entry q.0))) resolves in
-            inr (nothing some p.0 low, p.1))
+            let low : entry.decision < f.last = ⊎_elim (λ low. low) (λ q. absurd (omega (arith, taken, p.0, weight-one f.last entry q.0))) earlier in
+            inr (nothing p.0 low, p.1))
             (h.searched some);
         earlier = h.earlier;
         greatest = h.greatest;
@@ -232,7 +256,7 @@ module _ (vars : ℕ) (held : List (List Lit)) (entries : List Entry) (trail : I
       pub analysed-keep : IsAnalysed held entries place (record f { marks = set f.marks place false; pending = rest; clause = f.clause ++ negation_of entry.lit ∷ []; back = back })
       analysed-keep = record {
         last = h.last;
-        counted = record { each = counted.each; count = counted.count };
+        counted = record { each = counted.each; count = counted.count; above = counted.above };
         before = λ other m. let was = marked-unset f.marks place other within_marks m in omega (arith, was.1, h.before other was.0);
         known = h.known;
         refuted = λ lits g. h.refuted lits (kept-ground lits g);

@@ -37,15 +37,15 @@ module _ (entries : List Entry) (but : Option Lit) (old : Found) where
     }
 
     pub Marks-more : (place : ℕ) (newer : Found) → ¬ (but ≡ Some lit) → DeniesAt entries place lit → place < length new.marks
-        → newer ≡ record new { marks = set new.marks place true; pending = newer.pending }
+        → newer ≡ record new { marks = set new.marks place true; pending = newer.pending; lowest = newer.lowest }
         → IsCounted entries newer → new.pending ≤ newer.pending → Marks entries (clause ++ lit ∷ []) but old newer
     Marks-more place newer ne denies within is counted more =
         let marks : newer.marks ≡ set new.marks place true = ap (λ (f : Found). f.marks) is in
         let kept : (other : ℕ) → IsMarked new.marks other → IsMarked newer.marks other
         = λ other m. rw marks (set-marked new.marks place other within m) in
         record {
-          same = is ∙ ap (λ (f : Found). record f { marks = set new.marks place true; pending = newer.pending }) h.same
-              ∙ ap (λ ms. record old { marks = ms; pending = newer.pending }) (sym marks);
+          same = is ∙ ap (λ (f : Found). record f { marks = set new.marks place true; pending = newer.pending; lowest = newer.lowest }) h.same
+              ∙ ap (λ ms. record old { marks = ms; pending = newer.pending; lowest = newer.lowest }) (sym marks);
           counted = counted;
           stay = λ other m. kept other (h.stay other m);
           more = omega (arith, more, h.more);

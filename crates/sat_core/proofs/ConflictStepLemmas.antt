@@ -48,19 +48,20 @@ module _ (vars : ℕ) (held : List (List Lit)) (entries : List Entry) (trail : I
     same-last : t.last ≡ f.last
     same-last = ap (λ (x : Found). x.last) is
 
-    pub resolve-step : (reason : ℕ) → entry.reason ≡ Some reason → (entry.decision ≡ 0) ⊎ ((entry.decision ≡ t.last) × (0 < t.pending))
+    pub resolve-step : (reason : ℕ) → entry.reason ≡ Some reason
+        → (entry.decision ≡ 0) ⊎ ((entry.decision < t.last) ⊎ ((entry.decision ≡ t.last) × (0 < t.pending)))
         → (m : Found) → Marks entries (hinted held reason) (Some entry.lit) t m → IsAnalysed held entries place (record m { hints = m.hints ++ reason ∷ [] })
     resolve-step reason e resolves m k =
-        let whole : m ≡ record f { marks = m.marks; pending = m.pending }
-        = k.same ∙ ap (λ (x : Found). record x { marks = m.marks; pending = m.pending }) is in
+        let whole : m ≡ record f { marks = m.marks; pending = m.pending; lowest = m.lowest }
+        = k.same ∙ ap (λ (x : Found). record x { marks = m.marks; pending = m.pending; lowest = m.lowest }) is in
         let within : place < length f.marks = omega (arith, h.counted.each, slice_get_within entries place entry found) in
         subst (λ (x : Found). IsAnalysed held entries place (record x { hints = x.hints ++ reason ∷ [] })) (sym whole)
-        (analysed-resolve vars held entries trail place f h entry found marked t.pending taken reason (reason-of reason e) m.marks m.pending
+        (analysed-resolve vars held entries trail place f h entry found marked t.pending taken reason (reason-of reason e) m.marks m.pending m.lowest
         (subst (IsCounted entries) whole k.counted) k.more
         (λ other ne was. k.stay other (subst (λ ms. IsMarked ms other) (sym unset) (unset-marked f.marks place other ne was)))
         (λ other new.
         ⊎_elim (λ was. inl (marked-unset f.marks place other within (subst (λ ms. IsMarked ms other) unset was))) (λ n. inr n) (k.only other new))
-        k.all (⊎_elim (λ z. inl z) (λ p. inr (p.0 ∙ same-last, p.1)) resolves))
+        k.all (subst (λ last. (entry.decision ≡ 0) ⊎ ((entry.decision < last) ⊎ ((entry.decision ≡ last) × (0 < t.pending)))) same-last resolves))
 
     -- an entry that was decided is the lowest under its decision
     lowest : IsCounted entries t → entry.reason ≡ None → entry.decision ≡ f.last → t.pending ≡ 0

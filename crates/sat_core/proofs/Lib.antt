@@ -12,12 +12,14 @@ pub mod ConflictCountLemmas
 pub mod ConflictMarkLemmas
 pub mod ConflictLemmas
 pub mod ConflictStepLemmas
+pub mod SparingLemmas
 pub mod ConflictEndLemmas
 pub mod ConflictUndoLemmas
 mod EntryLemmas
 mod WatchLemmas
 mod GrowthLemmas
 mod PropagationLemmas
+mod ReplacementLemmas
 mod SettleLemmas
 mod VisitLemmas
 mod WalkLemmas

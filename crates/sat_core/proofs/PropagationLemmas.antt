@@ -304,8 +304,11 @@ all-open s is begun all =
     (λ number h. open-pair s (hinted (held_in s) number) (get_or s.pairs number None) all (is.watched.two number h) (is.watched.backed number h) (is.settled begun number h))
 
 -- the literals of a clause are within
-pub clause-within : (s : State) (number : ℕ) (lit : Lit) → IsSearch s → number < length (held_in s) → Contains (hinted (held_in s) number) lit → IsWithin s.vars lit
-clause-within s number lit is below has =
+pub all-within : (s : State) (number : ℕ) → IsSearch s → number < length (held_in s) → All (IsWithin s.vars) (hinted (held_in s) number)
+all-within s number is below =
     let all : All (All (IsWithin s.vars)) (held_in s) =
     All-append (All (IsWithin s.vars)) s.clauses (map (λ step. step.clause) s.steps) is.clauses_within (All-map (All (IsWithin s.vars)) (λ step. step.clause) s.steps is.steps_within) in
-    All-contains (IsWithin s.vars) (hinted (held_in s) number) lit (All-get_or (All (IsWithin s.vars)) (held_in s) number [] below all) has
+    All-get_or (All (IsWithin s.vars)) (held_in s) number [] below all
+
+pub clause-within : (s : State) (number : ℕ) (lit : Lit) → IsSearch s → number < length (held_in s) → Contains (hinted (held_in s) number) lit → IsWithin s.vars lit
+clause-within s number lit is below has = All-contains (IsWithin s.vars) (hinted (held_in s) number) lit (all-within s number is below) has

@@ -22,7 +22,7 @@ use Rattle.sat_core.specs.declared.phase.Phase.TheVariants.{Fresh}
 use Rattle.sat_core.specs.Analysis.{IsAssertion, IsLearnedFrom}
 use Rattle.sat_core.specs.Assigning.{AreInOrder}
 use Rattle.sat_core.specs.Searching.{IsAsserting, IsOpen, Learns, Propagates, State, held_in}
-use Rattle.sat_core.specs.Solving.{ComesFurther, IsTruthOf, weight}
+use Rattle.sat_core.specs.Solving.{ComesFurther, EndsRun, IsTruthOf, ahead, weight}
 use Rattle.sat_core.specs.Trails.{IsFalseUnder, IsTrail, IsValueOf, decisions_of, lits_of, under}
 use Rattle.sat_core.proofs.LiteralLemmas.{negation-negation, same-lit, same-variable, variable-within}
 use Rattle.sat_core.proofs.KnownLemmas.{IsUndecided-negation}
@@ -86,13 +86,36 @@ weight-further vars bound first more now last e further short =
     omega (arith, ap (weight vars) e ∙ weight-append vars first more, further, short)
 
 -- a round of the search
-pub round-further : (vars : ℕ) (old middle new : State) (found : Option ℕ) → old.vars ≡ vars → Propagates old middle found → ComesFurther middle new
+round-further : (vars : ℕ) (old middle new : State) (found : Option ℕ) → old.vars ≡ vars → Propagates old middle found → ComesFurther middle new
     → (vars + 1) ^ (vars + 1) - weight vars new.trail < (vars + 1) ^ (vars + 1) - weight vars old.trail
 round-further vars old middle new found e p f =
     let same : middle.vars ≡ vars = p.vars_same ∙ e in
     let further = subst (λ v. weight v middle.trail < weight v new.trail) same f.further in
     let short = subst (λ v. weight v middle.trail < (v + 1) ^ (v + 1)) same f.short in
     weight-further vars ((vars + 1) ^ (vars + 1)) old.trail p.more middle.trail new.trail p.trail_is further short
+
+-- the same, within a run
+pub round-within : (vars runs : ℕ) (old middle new : State) (found : Option ℕ) → old.vars ≡ vars → Propagates old middle found → ComesFurther middle new
+    → ahead vars runs new.trail < ahead vars runs old.trail
+round-within vars runs old middle new found e p f = omega (arith, round-further vars old middle new found e p f)
+
+-- a round with which a run may end
+pub round-ends : (vars : ℕ) (old middle back new : State) (found : Option ℕ) (before after : ℕ) → old.vars ≡ vars → Propagates old middle found → ComesFurther middle back
+    → EndsRun back before new after → ahead vars after new.trail < ahead vars before old.trail
+round-ends vars old middle back new found before after e p f ends =
+    let further = round-further vars old middle back found e p f in
+    ⊎_elim
+    (λ fewer.
+    let bound = (vars + 1) ^ (vars + 1) in
+    let runs : suc after * bound ≤ before * bound = mul-le-mul_right bound (omega (arith, fewer)) in
+    let one : suc after * bound ≡ after * bound + bound = omega arith in
+    omega (arith, further, runs, one))
+    (λ (same, trail).
+    let bound = (vars + 1) ^ (vars + 1) in
+    let runs : after * bound ≡ before * bound = ap (λ n. n * bound) same in
+    let weights : weight vars new.trail ≡ weight vars back.trail = ap (weight vars) trail in
+    omega (arith, further, runs, weights))
+    ends.fewer
 
 -- After a jump back.
 

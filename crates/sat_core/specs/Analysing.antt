@@ -7,12 +7,14 @@ use Rattle.sat_proof.specs.Refutations.{hinted}
 use Rattle.sat_core.specs.declared.entry.Entry.{Entry}
 use Rattle.sat_core.specs.Trails.{IsFalseUnder, decisions_of, lits_of}
 
--- The last decision, which entries of a trail are still to be looked at and how many of them stand under it, the literals of the
--- clause so far, the hints so far from the last on, and the greatest earlier decision under which a literal of the clause is false.
+-- The last decision, which entries of a trail are still to be looked at and how many of them stand under it, a place before which none of
+-- them is, the literals of the clause so far, the hints so far from the last on, and the greatest earlier decision under which a literal of
+-- the clause is false.
 pub record Found : Type 0 where
   pub last : ℕ
   pub marks : List Bool
   pub pending : ℕ
+  pub lowest : ℕ
   pub clause : List Lit
   pub hints : List ℕ
   pub back : ℕ
@@ -32,10 +34,11 @@ marked_under decision [] marks = 0
 marked_under decision (entry ∷ entries) [] = 0
 marked_under decision (entry ∷ entries) (mark ∷ marks) = weight_of decision entry mark + marked_under decision entries marks
 
--- the count is right, of marks for all entries
+-- the count and the place are right, of marks for all entries
 pub record IsCounted (entries : List Entry) (found : Found) : Type 0 where
   pub each : length found.marks ≡ length entries
   pub count : found.pending ≡ marked_under found.last entries found.marks
+  pub above : (place : ℕ) → IsMarked found.marks place → found.lowest ≤ place
 
 -- the entry at a place makes a literal false
 abbrev pub DeniesAt : List Entry → ℕ → Lit → Type 0
@@ -43,7 +46,7 @@ DeniesAt entries place lit = (entry : Entry) × (slice_get entries place ≡ Som
 
 -- the entries that make the literals of a clause false are marked too, but for that of one literal
 pub record Marks (entries : List Entry) (clause : List Lit) (but : Option Lit) (old new : Found) : Type 0 where
-  pub same : new ≡ record old { marks = new.marks; pending = new.pending }
+  pub same : new ≡ record old { marks = new.marks; pending = new.pending; lowest = new.lowest }
   pub counted : IsCounted entries new
   pub stay : (place : ℕ) → IsMarked old.marks place → IsMarked new.marks place
   pub more : old.pending ≤ new.pending

@@ -1,5 +1,5 @@
 -- For private contracts: what is decided next, and how far a search has come.
-use Rattle.std.specs.Prelude.{◌≡◌, ℕ, ◌+◌, ◌-◌, ◌^◌, ◌<◌, Bool, true, false, List, [], ◌∷◌, Option, Some, None, Contains}
+use Rattle.std.specs.Prelude.{◌≡◌, ◌⊎◌, ℕ, ◌+◌, ◌-◌, ◌*◌, ◌^◌, ◌<◌, Bool, true, false, List, [], ◌∷◌, Option, Some, None, Contains}
 use Rattle.sat_cnf.specs.declared.lit.Lit.{Lit}
 use Rattle.sat_cnf.specs.Clauses.{Cnf, IsWithin}
 use Rattle.sat_proof.specs.Propagation.{IsFalse, IsUndecided}
@@ -42,6 +42,17 @@ pub record ComesFurther (old new : State) : Type 0 where
   pub phase_is : new.phase ≡ Fresh
   pub further : weight old.vars old.trail < weight old.vars new.trail
   pub short : weight old.vars old.trail < (old.vars + 1) ^ (old.vars + 1)
+
+-- fewer runs may still begin, of a search of the same clauses that is fresh or as it was; or all is as it was
+pub record EndsRun (old : State) (before : ℕ) (new : State) (after : ℕ) : Type 0 where
+  pub vars_same : new.vars ≡ old.vars
+  pub clauses_same : new.clauses ≡ old.clauses
+  pub phase_is : (new.phase ≡ Fresh) ⊎ (new.phase ≡ old.phase)
+  pub fewer : (after < before) ⊎ ((after ≡ before) × (new.trail ≡ old.trail))
+
+-- how much of a search is ahead at most: whole runs, and what the weight lacks in this one
+abbrev pub ahead : ℕ → ℕ → List Entry → ℕ
+ahead vars runs entries = runs * (vars + 1) ^ (vars + 1) + ((vars + 1) ^ (vars + 1) - weight vars entries)
 
 -- a literal was decided, or all are
 abbrev pub Decides : State → Bool → State → Type 0

@@ -13,6 +13,7 @@ ghost use Rattle.sat_core.specs.Trails.{IsTrail, decisions_of, lits_of};
 use crate::entry::Entry;
 use crate::held::held_clause;
 use crate::search::Search;
+use crate::sparing::{MOST_REASONS, is_spared};
 use crate::trail::Trail;
 use sat_cnf::{Clauses, Lit, Memory};
 use sat_proof::Step;
@@ -62,7 +63,7 @@ fn learn_from(
     let mut analysis = Analysis::new(alloc, trail)?;
     analysis.resolve(trail, held_clause(clauses, steps, conflict), None, conflict)?;
     let mut place = trail.entries().len();
-    while place > 0 {
+    while place > analysis.lowest {
         place -= 1;
         analysis.look_at(trail, clauses, steps, place)?;
     }
@@ -78,6 +79,8 @@ struct Analysis {
     marks: Vec<bool>,
     /// How many of them stand under the last decision.
     pending: usize,
+    /// A place before which none of them is.
+    lowest: usize,
     /// The literals of the clause that is learned.
     clause: Vec<Lit>,
     /// The clauses from which it follows, from the last on.
@@ -95,6 +98,7 @@ impl Model for Analysis {
       last = a.last;
       marks = a.marks.items;
       pending = a.pending;
+      lowest = a.lowest;
       clause = a.clause.items;
       hints = a.hints.items;
       back = a.back;
@@ -104,7 +108,15 @@ impl Model for Analysis {
 impl Analysis {
     /// Nothing is marked yet.
     fn new(alloc: Global, trail: &Trail) -> Result<Analysis, Memory>
-        ensures empty { IfOk result (λ a. a ≡ record { last = decisions_of trail.now.entries; marks = a.marks; pending = 0; clause = []; hints = []; back = 0 }) }
+        ensures empty { IfOk result (λ a. a ≡ record {
+          last = decisions_of trail.now.entries;
+          marks = a.marks;
+          pending = 0;
+          lowest = a.lowest;
+          clause = [];
+          hints = [];
+          back = 0;
+        }) }
         ensures each { IfOk result (λ a. length a.marks ≡ length trail.now.entries) }
         ensures none { IfOk result (λ a. (place : ℕ) → ¬ IsMarked a.marks place) }
     {
@@ -112,6 +124,7 @@ impl Analysis {
             last: trail.decisions(),
             marks: vec![in alloc; false; trail.entries().len()]?,
             pending: 0,
+            lowest: trail.entries().len(),
             clause: Vec::new(alloc),
             hints: Vec::new(alloc),
             back: 0,
@@ -136,7 +149,7 @@ impl Analysis {
         }
         let entry = trail.entries()[place];
         self.take(trail, place, entry);
-        match self.reason_of(entry) {
+        match self.reason_of(trail, clauses, steps, place, entry) {
             Some(reason) => self.resolve(
                 trail,
                 held_clause(clauses, steps, reason),
@@ -162,17 +175,33 @@ impl Analysis {
         }
     }
 
-    /// The reason of an entry, where that takes its place: it stands under no decision, or under the last with others that are still ahead.
-    fn reason_of(&self, entry: Entry) -> Option<u64>
+    /// The reason of an entry, where that takes its place: it stands under no decision, or under the last with others that are still ahead, or
+    /// under an earlier one and is spared.
+    fn reason_of(
+        &self,
+        trail: &Trail,
+        clauses: &Clauses,
+        steps: &[Step],
+        place: usize,
+        entry: Entry,
+    ) -> Option<u64>
+        requires place { place < length trail.now.entries }
+        requires trail { IsTrail trail.now.vars (held_with clauses.now.list steps.now) trail.now.entries }
         ensures some { (reason : ℕ) → result ≡ Some reason → entry.reason ≡ Some reason }
-        ensures resolves { (reason : ℕ) → result ≡ Some reason → (entry.decision ≡ 0) ⊎ ((entry.decision ≡ self.now.last) × (0 < self.now.pending)) }
+        ensures resolves { (reason : ℕ) → result ≡ Some reason
+            → (entry.decision ≡ 0) ⊎ ((entry.decision < self.now.last) ⊎ ((entry.decision ≡ self.now.last) × (0 < self.now.pending))) }
         ensures none { result ≡ None → (entry.reason ≡ None) ⊎ ((0 < entry.decision) × (entry.decision ≡ self.now.last → self.now.pending ≡ 0)) }
     {
         if entry.decision == 0 || entry.decision == self.last && self.pending > 0 {
-            entry.reason
-        } else {
-            None
+            return entry.reason;
         }
+        let marks = self.marks.as_slice();
+        if entry.decision < self.last
+            && is_spared(trail, clauses, steps, marks, place, MOST_REASONS)
+        {
+            return entry.reason;
+        }
+        None
     }
 
     /// Hints at a clause, and marks the entries that make its literals false, but for one literal.
@@ -210,12 +239,13 @@ impl Analysis {
     fn mark_at(&mut self, trail: &Trail, place: usize)
         requires place { place < length trail.now.entries }
         requires counted { IsCounted trail.now.entries self.old }
-        ensures marked { self.new ≡ record self.old { marks = set self.old.marks place true; pending = self.new.pending } }
+        ensures marked { self.new ≡ record self.old { marks = set self.old.marks place true; pending = self.new.pending; lowest = self.new.lowest } }
         ensures counted { IsCounted trail.now.entries self.new }
         ensures more { self.old.pending ≤ self.new.pending }
     {
         if !self.marks[place] {
             self.marks[place] = true;
+            self.lowest = self.lowest.min(place);
             if trail.entries()[place].decision == self.last {
                 self.pending += 1;
             }

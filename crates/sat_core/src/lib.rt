@@ -85,8 +85,10 @@ mod outcome;
 mod pair;
 mod phase;
 mod propagation;
+mod runs;
 mod search;
 mod solving;
+mod sparing;
 mod trail;
 
 pub use conflict::{Learned, analyse};

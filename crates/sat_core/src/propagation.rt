@@ -1,5 +1,5 @@
 //! Unit propagation over watched literals.
-ghost use Rattle.std.specs.Prelude.{◌≡◌, ℕ, ◌<◌, true, false, [], length, slice_index_or, Contains, None, MatchOption, MatchBool};
+ghost use Rattle.std.specs.Prelude.{◌≡◌, ℕ, ◌<◌, ◌≤◌, true, false, [], length, slice_index_or, All, Contains, None, MatchOption, MatchBool};
 ghost use Rattle.sat_cnf.specs.Clauses.{IsWithin};
 ghost use Rattle.sat_proof.specs.Refutations.{hinted};
 ghost use Rattle.sat_watch.specs.Watching.{StandsBehind, list_at};
@@ -158,13 +158,35 @@ impl Search<'_> {
         requires { number < length (held_in self.now) }
         ensures { IsReplacement (lits_of self.now.trail) (hinted (held_in self.now) number) lit other result }
     {
-        for literal in self.clause(number) {
-            if replaces(&self.trail, *literal, lit, other) {
-                return Some(*literal);
-            }
+        let clause = self.clause(number);
+        let (before, behind) = clause.split_at(self.start_in(clause));
+        match free_among(&self.trail, behind, lit, other) {
+            Some(to) => Some(to),
+            None => free_among(&self.trail, before, lit, other),
         }
-        None
     }
+
+    /// Where the search in a clause begins: at another place each time, since watchers that all move to the first literals of their
+    /// clauses gather there, and are looked at the more often.
+    fn start_in(&self, clause: &[Lit]) -> usize
+        ensures { result ≤ length clause.now }
+    {
+        let turn = self.gone.wrapping_add(self.steps.len());
+        turn.checked_rem(clause.len()).unwrap_or(0)
+    }
+}
+
+/// A literal of a part of a clause, but for the two at which it is watched, that isn't false.
+fn free_among(trail: &Trail, part: &[Lit], lit: Lit, other: Lit) -> Option<Lit>
+    requires { All (IsWithin trail.now.vars) part.now }
+    ensures { IsReplacement (lits_of trail.now.entries) part.now lit other result }
+{
+    for literal in part {
+        if replaces(trail, *literal, lit, other) {
+            return Some(*literal);
+        }
+    }
+    None
 }
 
 /// Whether a literal is another than two and isn't false.

@@ -6,12 +6,13 @@ ghost use Rattle.sat_core.specs.declared.phase.Phase.TheVariants.{Quiet};
 ghost use Rattle.sat_core.specs.Analysis.{IsLearnedFrom};
 ghost use Rattle.sat_core.specs.Outcomes.{IsOutcome};
 ghost use Rattle.sat_core.specs.Searching.{IsOpen, held_in, most};
-ghost use Rattle.sat_core.specs.Solving.{ComesFurther, Decides, IsDecided, IsTruthOf, cnf_of};
+ghost use Rattle.sat_core.specs.Solving.{ComesFurther, Decides, EndsRun, IsDecided, IsTruthOf, cnf_of};
 ghost use Rattle.sat_core.specs.Trails.{decisions_of, lits_of};
 
 use crate::conflict::{Learned, analyse};
 use crate::order::Order;
 use crate::outcome::Outcome;
+use crate::runs::Runs;
 use crate::search::Search;
 use sat_cnf::{Clauses, Lit, Memory};
 use sat_proof::Step;
@@ -26,6 +27,7 @@ pub fn solve(alloc: Global, clauses: &Clauses) -> Result<Outcome, Memory>
 {
     let mut search = Search::new(alloc, clauses)?;
     let mut order = Order::new(alloc, clauses.vars())?;
+    let mut runs = Runs::new();
     loop {
         match search.propagate() {
             Some(conflict) => {
@@ -34,6 +36,7 @@ pub fn solve(alloc: Global, clauses: &Clauses) -> Result<Outcome, Memory>
                     return refuted(search, learned.step);
                 }
                 jump_back(&mut search, &mut order, learned)?;
+                end_run(&mut search, &mut order, &mut runs)?;
             }
             None => {
                 if !decides(&mut search, &mut order, clauses.vars()) {
@@ -54,6 +57,17 @@ fn jump_back(search: &mut Search<'_>, order: &mut Order, learned: Learned) -> Re
     order.release(search.trail(), learned.back)?;
     search.undo(learned.back);
     search.learn(learned.step)?;
+    Ok(())
+}
+
+/// Counts a conflict, and takes all decisions back where a run ends with it.
+fn end_run(search: &mut Search<'_>, order: &mut Order, runs: &mut Runs) -> Result<(), Memory>
+    ensures { OnOk result (EndsRun search.old runs.old.left search.new runs.new.left) }
+{
+    if runs.end_with_conflict() && search.decisions() > 0 {
+        order.release(search.trail(), 0)?;
+        search.undo(0);
+    }
     Ok(())
 }
 

@@ -1,9 +1,10 @@
-use Rattle.std.proofs.Common.{◌≡◌, Option, Some, None, All, ◌⊎◌, sym, subst, arith}
+use Rattle.std.proofs.Common.{◌≡◌, Option, Some, None, All, ◌⊎◌, sym, ap, subst, arith}
 use Rattle.sat_cnf.specs.declared.lit.Lit.{Lit}
 use Rattle.sat_proof.specs.Propagation.{IsFalse}
 use Rattle.sat_proof.specs.Refutations.{held_with}
-use Rattle.sat_core.specs.Analysing.{IsAnalysed, Marks}
+use Rattle.sat_core.specs.Analysing.{Found, Marks}
 use Rattle.sat_core.specs.Trails.{lits_of}
+use Rattle.sat_core.proofs.ConflictLemmas.{analysed-end}
 use Rattle.sat_core.proofs.ConflictEndLemmas.{begin-step, conflict-denied, learned-by, new-counted}
 use Rattle.sat_core.proofs.conflict.learn_from.Goals as goal
 
@@ -17,8 +18,8 @@ resolve-requires-clause-denied c =
     subst (All (λ lit. ◌≡◌ {A = Option Lit} None (Some lit) ⊎ IsFalse (lits_of c.args.trail.now.entries) lit)) (sym c.held_clause.ensures.clause)
     (conflict-denied c.args.trail.now.entries _ c.requires.conflict)
 
-pub loop-place-init : goal.loop-place-init
-loop-place-init c =
+pub loop-analysis-init : goal.loop-analysis-init
+loop-analysis-init c =
     let entries = c.args.trail.now.entries in
     let held = held_with c.args.clauses.now.list c.args.steps.now in
     let (m, marks, new) = c.in_ok-resolve.ensures in
@@ -33,8 +34,7 @@ pub returns : goal.returns
 returns c =
     let entries = c.args.trail.now.entries in
     let held = held_with c.args.clauses.now.list c.args.steps.now in
-    let at : c.loop-place.place ≡ 0 = omega (arith, c.loop-place-test.false) in
     rw c.finish.ensures (
-    learned-by c.args.trail.now.vars held entries c.requires.trail c.loop-place.analysis
-    (subst (λ place. IsAnalysed held entries place c.loop-place.analysis) at c.loop-place.invariant.analysed)
+    learned-by c.args.trail.now.vars held entries c.requires.trail c.loop-analysis.analysis
+    (analysed-end held entries c.loop-analysis.place c.loop-analysis.analysis c.loop-analysis.invariant.analysed (omega (arith, c.loop-analysis-test.false, ap (λ (f : Found). f.lowest) c.analysis-in-loop-analysis.view_is)))
     )

@@ -31,7 +31,7 @@ returns-then-entries-place-clause-counted c =
     let within : c.args.place < length c.self.inside.marks.items = omega (arith, counted.each, c.requires.place) in
     let off : slice_index_or c.self.inside.marks.items c.args.place false ≡ false
     = get_or_default c.self.inside.marks.items c.args.place false c.index.result.now within ∙ sym c.index.ensures ∙ c.if-not-index.true in
-    (mark-last c.args.trail.now.entries _ c.args.place _ found counted off c.if-entries-place.true).1
+    rw c.min-self-inside.ensures ((mark-last c.args.trail.now.entries _ c.args.place _ found counted off c.if-entries-place.true).1)
 
 pub returns-else-entries-place-clause-counted : goal.returns-else-entries-place-clause-counted
 unfolding none
@@ -42,4 +42,4 @@ returns-else-entries-place-clause-counted c =
     let within : c.args.place < length c.self.inside.marks.items = omega (arith, counted.each, c.requires.place) in
     let off : slice_index_or c.self.inside.marks.items c.args.place false ≡ false
     = get_or_default c.self.inside.marks.items c.args.place false c.index.result.now within ∙ sym c.index.ensures ∙ c.if-not-index.true in
-    mark-other c.args.trail.now.entries _ c.args.place _ found counted off c.if-entries-place.false
+    rw c.min-self-inside.ensures (mark-other c.args.trail.now.entries _ c.args.place _ found counted off c.if-entries-place.false)

@@ -1,0 +1,4 @@
+use Rattle.sat_core.proofs.sparing.+is_spared.Given as goal
+
+abbrev pub decreases-is_spared : goal.decreases-is_spared
+decreases-is_spared l = l.reasons
