@@ -1,7 +1,8 @@
 -- What characters stand for.
-use Rattle.std.proofs.Common.{◌≡◌, ℕ, zero, suc, ◌+◌, ◌-◌, ◌<◌, ◌≤◌, List, [], ◌∷◌, ◌++◌, length, Option, Some, None, sym, ap, ◌∙◌, arith}
+use Rattle.std.proofs.Common.{◌≡◌, ℕ, zero, suc, ◌+◌, ◌-◌, ◌<◌, ◌≤◌, List, [], ◌∷◌, ◌++◌, length, Option, Some, None, Bool, true, take, drop, refl, sym, ap, ◌∙◌, arith}
 use Rattle.std.specs.Prelude.{slice_index, slice_range, ◌==◌}
-use Rattle.std.proofs.lemmas.Bool.{cond-true, cond-false, eq-eqb, ne_eqb}
+use Rattle.std.proofs.lemmas.Bool.{cond-true, cond-false, eq-eqb, false_from_ne_true, ne_eqb}
+use Rattle.std.proofs.lemmas.List.{get_or-drop, get_or-take, length-drop, length-take-le, take_more}
 use Rattle.reg_reader.specs.Markup.{IsReference, IsCharacters, HasCharacters, AreCharactersOf}
 use Rattle.reg_reader.specs.Characters.{Undone, after_progress, with_byte, undone}
 use Rattle.reg_reader.specs.References.{progress_of}
@@ -31,6 +32,27 @@ step-undone b from n reference next text more le is a c within = record {
   at = undone-more b from n (reference, text) (next, more) le is.at (ap (λ x. (x, (with_byte b n reference text).1)) (sym a) ∙ ap (λ x. (next, x)) (sym c));
   place = within;
 }
+
+-- bytes that aren't `&` stand for themselves
+pub plain-undone : (b : List ℕ) (from m : ℕ) → from + m ≤ length b → ((k : ℕ) → k < m → slice_index b (from + k) == 38 ≡ true → ⊥) → undone b from m ≡ (None, take m (drop from b))
+plain-undone b from zero within other = refl
+plain-undone b from (suc m) within other =
+    ap (λ (x : Undone). with_byte b (from + m) x.0 x.1) (plain-undone b from m (omega arith) (λ k few. other k (omega (arith, few))))
+    ∙ cond-false (slice_index b (from + m) == 38) _ _ (false_from_ne_true _ (other m (omega arith)))
+    ∙ ap (λ (text : List ℕ). (None, text))
+    (ap (λ x. take m (drop from b) ++ x ∷ []) (sym (get_or-drop from b m 0))
+    ∙ sym (take_more (drop from b) m 0 (let e : m < length (drop from b) = omega (arith, length-drop from b, within) in e))
+    ∙ ap (λ n. take n (drop from b)) (let e : m + 1 ≡ suc m = omega arith in e))
+
+pub range-length : (b : List ℕ) (from to : ℕ) → from ≤ to → to ≤ length b → length (slice_range b from to) ≡ to - from
+range-length b from to order within = length-take-le (to - from) (drop from b) (let e : to - from ≤ length (drop from b) = omega (arith, length-drop from b, within) in e)
+
+-- the same of the bytes of a part
+pub plain-part : (b : List ℕ) (from to m : ℕ) → to ≤ length b → m ≤ to - from → ((k : ℕ) → k < m → slice_index (slice_range b from to) k == 38 ≡ true → ⊥) → from ≤ to → undone b from m ≡ (None, take m (drop from b))
+plain-part b from to m within few other order =
+    plain-undone b from m (omega arith)
+    (λ k less is. other k less
+    (ap (λ x. x == 38) (get_or-take (to - from) (drop from b) k 0 (omega arith) ∙ get_or-drop from b k 0) ∙ is))
 
 pub characters-within : {b : List ℕ} {stop i j : ℕ} {text : List ℕ} → IsCharacters b stop i j text → i < j → j ≤ length b
 characters-within IsCharacters.none lt = absurd (omega arith)

@@ -20,5 +20,6 @@ pub mod Parts
 pub mod ViewLemmas
 pub mod LawLemmas
 pub mod PlaceLemmas
+pub mod SizeLemmas
 pub mod PassingLemmas
 pub mod TagLemmas

@@ -22,7 +22,7 @@ made : (b : List ℕ) (tree : Node) (layer : Node-F Node) → out-Node tree ≡ 
 made b tree layer e there inner = HasParts.parts (subst (IsNodeThere b) (sym e) there) (subst (λ l. All (HasParts b) (children_of l)) (sym e) inner)
 
 module _ {b : List ℕ} where
-  blank-le : {i j : ℕ} → IsBlank b i j → i ≤ j
+  pub blank-le : {i j : ℕ} → IsBlank b i j → i ≤ j
   blank-le IsBlank.none = omega arith
   blank-le (IsBlank.white blank w) = omega (arith, blank-le blank)
   blank-le (IsBlank.comment blank c) = omega (arith, blank-le blank, comment-le c)

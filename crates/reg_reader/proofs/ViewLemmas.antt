@@ -1,10 +1,12 @@
 -- What the nodes of a tree are as plain data.
-use Rattle.std.proofs.Common.{◌≡◌, ℕ, ◌+◌, ◌<◌, ◌^◌, List, [], ◌∷◌, ◌++◌, length, take, get_or, refl, sym, ap, subst, ◌∙◌}
-use Rattle.std.specs.Prelude.{All, if◌then◌else◌, codes}
+use Rattle.std.proofs.Common.{◌≡◌, ℕ, ◌+◌, ◌<◌, ◌^◌, List, [], ◌∷◌, ◌++◌, length, take, drop, get_or, refl, sym, ap, subst, ◌∙◌}
+use Rattle.std.specs.Prelude.{Bool, false, All, if◌then◌else◌, codes}
+use Rattle.std.specs.List.{list_any}
 use Rattle.std.specs.Str.{bytes_eq}
-use Rattle.std.proofs.lemmas.List.{append_assoc, append-nil, take_more}
+use Rattle.std.proofs.lemmas.Bool.{or_parts, cond-false}
+use Rattle.std.proofs.lemmas.List.{append_assoc, append-nil, take_more, at_drop_more}
 use Rattle.reg_reader.specs.Markup.{Spells, IsElement, HasCharacters, IsNodeThere, children_of, HasParts}
-use Rattle.reg_reader.specs.Views.{Content, elements_in, text_in}
+use Rattle.reg_reader.specs.Views.{Content, Element, elements_in, text_in, text_before}
 use Rattle.reg_reader.specs.Shown.{bytes_of, characters_of, attributes_of, joined, shown_node, content_of, AreShown, IsShown}
 use Rattle.reg_reader.specs.declared.markup.Part.{Part}
 use Rattle.reg_reader.specs.declared.markup.Node.{Node}
@@ -63,6 +65,39 @@ module _ (b : List ℕ) where
       let taken : take (k + 1) nodes ≡ take k nodes ++ tree ∷ [] = take_more nodes k tree lt ∙ ap (λ t. take k nodes ++ t ∷ []) (sym is) in
       next ∙ ap (λ xs. xs ++ text_in (content_of b (tree ∷ []))) so_far ∙ append_assoc old (text_in (content_of b (take k nodes))) (text_in (content_of b (tree ∷ [])))
       ∙ ap (λ xs. old ++ xs) (sym (push-text (take k nodes) tree) ∙ ap (λ ns. text_in (content_of b ns)) (sym taken))
+
+  -- whether one of the elements right between two tags has a name
+  abbrev HasNamed : List ℕ → Content → Bool
+  HasNamed name content = list_any (λ (element : Element). bytes_eq element.name name) (elements_in content)
+
+  module _ (name : List ℕ) where
+    layer-other : (after : Content) (layer : Node-F (Content → Content)) → HasNamed name (shown_node b layer Content.none) ≡ false → text_before name (shown_node b layer after) ≡ text_in (shown_node b layer Content.none) ++ text_before name after
+    layer-other after (Node-F.Element at own attributes children) e =
+        cond-false (bytes_eq (bytes_of b own) name) _ _ (or_parts _ _ e).0
+        ∙ ap (λ xs. xs ++ text_before name after) (sym (append-nil (if bytes_eq (bytes_of b own) (codes "comment") then [] else text_in (joined children))))
+    layer-other after (Node-F.Chars part) e = ap (λ xs. xs ++ text_before name after) (sym (append-nil (characters_of b part)))
+
+    before-other : (nodes : List Node) (tree : Node) → HasNamed name (content_of b (tree ∷ [])) ≡ false → text_before name (content_of b (tree ∷ nodes)) ≡ text_in (content_of b (tree ∷ [])) ++ text_before name (content_of b nodes)
+    before-other nodes tree =
+        subst (λ (f : Content → Content). HasNamed name (f Content.none) ≡ false → text_before name (f (content_of b nodes)) ≡ text_in (f Content.none) ++ text_before name (content_of b nodes))
+        (sym (fold_out-Node (Content → Content) (shown_node b) tree)) (layer-other (content_of b nodes) (map-Node _ (Content → Content) (fold-Node (Content → Content) (shown_node b)) (out-Node tree)))
+
+    -- the text of the nodes so far, and that before the name from there on, are all that stands before it
+    abbrev pub IsBeforeAt : List Node → ℕ → Type 0
+    IsBeforeAt nodes k = text_in (content_of b (take k nodes)) ++ text_before name (content_of b (drop k nodes)) ≡ text_before name (content_of b nodes)
+
+    module _ (nodes : List Node) (k : ℕ) (tree : Node) (is : tree ≡ get_or nodes k tree) (lt : k < length nodes) (so_far : IsBeforeAt nodes k) where
+      at-node : text_before name (content_of b (drop k nodes)) ≡ text_before name (content_of b (tree ∷ drop (k + 1) nodes))
+      at-node =
+          at_drop_more (λ ns. text_before name (content_of b ns)) nodes k tree lt
+          ∙ ap (λ t. text_before name (content_of b (t ∷ drop (k + 1) nodes))) (sym is)
+
+      pub next-before : HasNamed name (content_of b (tree ∷ [])) ≡ false → IsBeforeAt nodes (k + 1)
+      next-before other =
+          let taken : take (k + 1) nodes ≡ take k nodes ++ tree ∷ [] = take_more nodes k tree lt ∙ ap (λ t. take k nodes ++ t ∷ []) (sym is) in
+          ap (λ xs. xs ++ text_before name (content_of b (drop (k + 1) nodes))) (ap (λ ns. text_in (content_of b ns)) taken ∙ push-text (take k nodes) tree)
+          ∙ append_assoc (text_in (content_of b (take k nodes))) (text_in (content_of b (tree ∷ []))) (text_before name (content_of b (drop (k + 1) nodes)))
+          ∙ ap (λ xs. text_in (content_of b (take k nodes)) ++ xs) (sym (before-other (drop (k + 1) nodes) tree other) ∙ sym at-node) ∙ so_far
 
   there : (tree : Node) → HasParts b tree → IsNodeThere b (out-Node tree) × All (HasParts b) (children_of (out-Node tree))
   there tree (HasParts.parts here inner) = (here, inner)

@@ -2,7 +2,7 @@
 use Rattle.std.specs.Prelude.{◌≡◌, ℕ, ◌+◌, ◌<◌, ◌≤◌, List, [], ◌∷◌, ◌++◌, length, take}
 use Rattle.std.specs.List.{AllByRecursion}
 use Rattle.reg_reader.specs.Markup.{Spells, IsStop, IsTooDeep, IsFront, IsFrontWithin, IsCharacters}
-use Rattle.reg_reader.specs.Views.{Content, Element}
+use Rattle.reg_reader.specs.Views.{Content, Element, element_size}
 use Rattle.reg_reader.specs.Shown.{characters_of, SpellsElement}
 use Rattle.reg_reader.specs.declared.markup.Node.{Node}
 use Rattle.reg_reader.specs.declared.markup.Part.{Part}
@@ -67,3 +67,7 @@ tags_in (Content.child place name attributes inner after) = (attributes ∷ tags
 -- no element that is spelled, nor any in it, has two attributes of one name
 abbrev pub AttributesDiffer : Type 0
 AttributesDiffer = (b : List ℕ) (element : Element) → SpellsElement b element → AllByRecursion NamesDiffer (element.attributes ∷ tags_in element.content)
+
+-- an element is no larger than the text that spells it
+abbrev pub ElementsAreNoLarger : Type 0
+ElementsAreNoLarger = (b : List ℕ) (element : Element) → SpellsElement b element → element_size element ≤ length b

@@ -1,11 +1,12 @@
-ghost use Rattle.std.specs.Prelude.{◌≡◌, ◌+◌, ◌<◌, ◌^◌, IfOk, length};
+ghost use Rattle.std.specs.Prelude.{◌≡◌, ◌+◌, ◌++◌, ◌-◌, ◌<◌, ◌≤◌, ◌^◌, IfOk, None, length, slice_range};
 ghost use Rattle.reg_reader.specs.Markup.{HasCharacters, AreCharactersOf};
-ghost use Rattle.reg_reader.specs.Characters.{with_byte};
+ghost use Rattle.reg_reader.specs.Characters.{undone, with_byte};
 ghost use Rattle.reg_reader.specs.Shown.{characters_of};
 ghost use Rattle.reg_reader.specs.Within.{Within};
 
 use crate::markup::Part;
 use crate::reference::{Progress, progress_of};
+use memchr::memchr;
 use std::alloc::Global;
 use vkb_bytes::Memory;
 
@@ -39,6 +40,20 @@ fn put_byte(
     }
 }
 
+/// The place up to which characters stand for themselves: that of the first `&`, or their end.
+fn plain_end(bytes: &[u8], part: Part) -> u32
+    requires order { part.from ≤ part.to }
+    requires within { part.to ≤ length bytes.now }
+    ensures low { part.from ≤ result }
+    ensures high { result ≤ part.to }
+    ensures plain { undone bytes.now part.from (result - part.from) ≡ (None, slice_range bytes.now part.from result) }
+{
+    match memchr(b'&', &bytes[part.from as usize..part.to as usize]) {
+        Some(length) => part.from + length as u32,
+        None => part.to,
+    }
+}
+
 /// The bytes that characters stand for.
 pub fn undo(alloc: Global, bytes: &[u8], part: Part) -> Result<Vec<u8>, Memory>
     requires part { HasCharacters bytes.now part }
@@ -46,10 +61,32 @@ pub fn undo(alloc: Global, bytes: &[u8], part: Part) -> Result<Vec<u8>, Memory>
     ensures meaning { IfOk result (λ text. AreCharactersOf bytes.now part text.items) }
     ensures value { IfOk result (λ text. text.items ≡ characters_of bytes.now part) }
 {
-    let mut text = Vec::new(alloc);
+    if part.from == part.to {
+        return Ok(Vec::new(alloc));
+    }
+    let plain = plain_end(bytes, part);
+    let mut text = Vec::from_slice(alloc, &bytes[part.from as usize..plain as usize])?;
     let mut reference = None;
-    for n in part.from..part.to {
+    for n in plain..part.to {
         reference = put_byte(bytes, n, reference, &mut text)?;
     }
     Ok(text)
+}
+
+/// Puts what characters stand for behind a text.
+pub fn put(alloc: Global, bytes: &[u8], part: Part, text: &mut Vec<u8>) -> Result<(), Memory>
+    requires part { HasCharacters bytes.now part }
+    requires small { length bytes.now < 2 ^ 32 }
+    ensures { IfOk result (λ _. text.new.items ≡ text.old.items ++ characters_of bytes.now part) }
+{
+    if part.from == part.to {
+        return Ok(());
+    }
+    if plain_end(bytes, part) == part.to {
+        text.extend_from_slice(&bytes[part.from as usize..part.to as usize])?;
+        return Ok(());
+    }
+    let characters = undo(alloc, bytes, part)?;
+    text.extend_from_slice(&characters)?;
+    Ok(())
 }

@@ -1,5 +1,5 @@
 //! What is true of all texts, whatever reads them: none does anything, and its clause is what is proved.
-ghost use Rattle.reg_reader.specs.Laws.{OneAnswer, FrontsEndAtTheStop, CharactersAreNoLonger, CharactersAreUndone, OneElement, PlacesRise, AttributesDiffer};
+ghost use Rattle.reg_reader.specs.Laws.{OneAnswer, FrontsEndAtTheStop, CharactersAreNoLonger, CharactersAreUndone, OneElement, PlacesRise, AttributesDiffer, ElementsAreNoLarger};
 
 /// Each text spells a tree, stops, or is too deep: one of the three holds, and at one place.
 pub fn one_answer()
@@ -34,4 +34,9 @@ pub fn places_rise()
 /// No element of a tree has two attributes of one name.
 pub fn attributes_differ()
     ensures { AttributesDiffer }
+{}
+
+/// An element is no larger than the text that spells it.
+pub fn elements_are_no_larger()
+    ensures { ElementsAreNoLarger }
 {}

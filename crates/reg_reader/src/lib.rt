@@ -12,6 +12,7 @@
 //! let types = Element::root(bytes, &tree);
 //! types.name()                              // types
 //! types.text(alloc)?                        // A<, without the comment
+//! types.text_before(alloc, b"type")?        // A
 //! let mut children = types.children();
 //! let one = children.next();                // the element at byte 8
 //! one.attribute(alloc, b"name")?            // VkA
@@ -36,8 +37,8 @@ mod reference;
 mod view;
 
 pub use laws::{
-    attributes_differ, characters_are_no_longer, characters_are_undone, fronts_end_at_the_stop,
-    one_answer, one_element, places_rise,
+    attributes_differ, characters_are_no_longer, characters_are_undone, elements_are_no_larger,
+    fronts_end_at_the_stop, one_answer, one_element, places_rise,
 };
 pub use markup::{MarkupFault, Node, Part};
 pub use view::{Children, Element};

@@ -1,6 +1,8 @@
-ghost use Rattle.std.specs.Prelude.{◌≡◌, ◌<◌, ◌^◌, [], ◌∷◌, ◌++◌, ◌↔◌, length, option_map, option_to_list, All, IfOk, IfSome, IsNone, MatchOption};
+ghost use Rattle.std.specs.Prelude.{◌≡◌, ◌<◌, ◌≤◌, ◌^◌, [], ◌∷◌, ◌++◌, ◌↔◌, length, option_map, option_to_list, All, IfOk, IfSome, IsNone, MatchOption};
+ghost use Rattle.std.specs.List.{list_any};
+ghost use Rattle.std.specs.Str.{bytes_eq};
 ghost use Rattle.reg_reader.specs.Markup.{Spells, HasCharacters, IsNamePart, IsAttributeThere, HasParts};
-ghost use Rattle.reg_reader.specs.Views.{elements_in, text_in, value_in};
+ghost use Rattle.reg_reader.specs.Views.{elements_in, text_in, text_before, value_in, element_size};
 ghost use Rattle.reg_reader.specs.Shown.{bytes_of, characters_of, attributes_of, content_of, IsElementOf, SpellsElement, AreShown};
 
 use crate::characters;
@@ -41,6 +43,7 @@ impl<'a> Element<'a> {
         requires small { length bytes.now < 2 ^ 32 }
         ensures node { IsElementOf bytes.now root.now result }
         ensures spelled { SpellsElement bytes.now result }
+        ensures size { element_size result ≤ length bytes.now }
     {
         match shown(bytes, root) {
             Some(element) => element,
@@ -91,6 +94,17 @@ impl<'a> Element<'a> {
     {
         let mut text = Vec::new(alloc);
         put_text(alloc, self.bytes, self.children, &mut text)?;
+        Ok(Bytes::from_vec(text))
+    }
+
+    /// All characters before the first element of a name that stands right between its tags, with references undone, but
+    /// for those of elements `comment`.
+    pub fn text_before(&self, alloc: Global, name: &[u8]) -> Result<Bytes, Memory>
+        ensures { IfOk result (λ text. text ≡ text_before name.now self.now.content) }
+    {
+        let before = nodes_before(self.bytes, self.children, name);
+        let mut text = Vec::new(alloc);
+        put_text(alloc, self.bytes, before, &mut text)?;
         Ok(Bytes::from_vec(text))
     }
 }
@@ -184,6 +198,32 @@ fn first_among<'a>(bytes: &'a [u8], nodes: &'a [Node]) -> Option<(Element<'a>, &
     None
 }
 
+/// The nodes before the first element of a name.
+fn nodes_before<'a>(bytes: &[u8], nodes: &'a [Node], name: &[u8]) -> &'a [Node]
+    requires { AreShown bytes.now nodes.now }
+    ensures text { text_in (content_of bytes.now result.now) ≡ text_before name.now (content_of bytes.now nodes.now) }
+    ensures shown { AreShown bytes.now result.now }
+{
+    for at in 0..nodes.len() {
+        if is_named(bytes, &nodes[at], name) {
+            return &nodes[..at];
+        }
+    }
+    nodes
+}
+
+/// Whether a node is an element of a name.
+fn is_named(bytes: &[u8], node: &Node, name: &[u8]) -> bool
+    requires parts { HasParts bytes.now node.now }
+    requires small { length bytes.now < 2 ^ 32 }
+    ensures { result ≡ list_any (λ element. bytes_eq element.name name.now) (elements_in (content_of bytes.now (node.now ∷ []))) }
+{
+    match shown(bytes, node) {
+        Some(element) => element.name() == name,
+        None => false,
+    }
+}
+
 /// The part of the value of the attribute of a name.
 fn value_part(bytes: &[u8], attributes: &[(Part, Part)], name: &[u8]) -> Option<Part>
     requires { All (IsAttributeThere bytes.now) attributes.now }
@@ -221,8 +261,7 @@ fn put_node(alloc: Global, bytes: &[u8], node: &Node, text: &mut Vec<u8>) -> Res
 {
     match node {
         Node::Chars(part) => {
-            let characters = characters::undo(alloc, bytes, *part)?;
-            text.extend_from_slice(&characters)?;
+            characters::put(alloc, bytes, *part, text)?;
             Ok(())
         }
         Node::Element { name, children, .. } => {

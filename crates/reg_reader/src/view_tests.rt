@@ -32,6 +32,35 @@ fn texts_are_without_comments(rt: HostRuntime) -> Result<(), Fail> {
     Ok(())
 }
 
+/// The text of the root before its first child of a name.
+fn text_before_in(alloc: Global, bytes: &[u8], name: &[u8]) -> Result<Vec<u8>, Fail> {
+    if bytes.len() > 1_000_000 {
+        return Err(Fail::from("too long"));
+    }
+    let tree = read_markup(alloc, bytes)?;
+    let text = Element::root(bytes, &tree).text_before(alloc, name)?;
+    Ok(text.into_vec())
+}
+
+#[test]
+fn texts_end_before_the_first_child_of_a_name(rt: HostRuntime) -> Result<(), Fail> {
+    let alloc = rt.alloc();
+    let bytes: &[u8] =
+        b"<a>b&lt;<c>d<n>e</n></c><comment>f</comment><!-- g -->h<n>i</n>j<n/><k/></a>";
+    let table: [(&[u8], &[u8]); 5] = [
+        (b"c", b"b<"),
+        (b"n", b"b<deh"),
+        (b"comment", b"b<de"),
+        (b"k", b"b<dehij"),
+        (b"a", b"b<dehij"),
+    ];
+    for (name, text) in table {
+        let found = text_before_in(alloc, bytes, name)?;
+        assert_eq!(rt; found.as_slice(), text);
+    }
+    Ok(())
+}
+
 /// The value of an attribute of the root, or `-` where there is none.
 fn value_of(alloc: Global, bytes: &[u8], name: &[u8]) -> Result<Vec<u8>, Fail> {
     if bytes.len() > 1_000_000 {

@@ -1,5 +1,5 @@
-use Rattle.std.proofs.Common.{arith}
-use Rattle.reg_reader.proofs.CharactersLemmas.{step-undone, characters-undone, undone-value, part-le, part-within}
+use Rattle.std.proofs.Common.{arith, ◌∙◌, None, []}
+use Rattle.reg_reader.proofs.CharactersLemmas.{start-undone, step-undone, characters-undone, undone-value, part-le, part-within}
 use Rattle.reg_reader.proofs.characters.undo.Goals as goal
 
 pub put_byte-requires-clause-within : goal.put_byte-requires-clause-within
@@ -18,3 +18,11 @@ pub returns-clause-value : goal.returns-clause-value
 returns-clause-value c =
     undone-value c.args.bytes.now c.args.part c.loop-n.n c.loop-n.reference c.loop-n.text.items
     (omega (arith, part-le c.args.bytes.now c.args.part c.requires.part)) c.loop-n.invariant
+
+pub returns-then-part-clause-meaning : goal.returns-then-part-clause-meaning
+returns-then-part-clause-meaning c = λ stop text chars.
+    c.new.ensures.items
+    ∙ characters-undone c.args.bytes.now c.args.part c.args.part.from None [] c.if-part.true (start-undone c.args.bytes.now c.args.part.from) stop text chars
+
+pub plain_end-plain-requires-clause-order : goal.plain_end-plain-requires-clause-order
+plain_end-plain-requires-clause-order c = part-le c.args.bytes.now c.args.part c.requires.part
