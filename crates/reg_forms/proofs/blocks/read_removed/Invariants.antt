@@ -1,0 +1,15 @@
+use Rattle.std.proofs.Common.{◌≡◌, length}
+use Rattle.std.specs.List.{flat_map}
+use Rattle.reg_reader.specs.Views.{elements_in}
+use Rattle.reg_forms.specs.Options.{removed_items}
+use Rattle.reg_forms.specs.Forms.{with_items}
+use Rattle.reg_forms.proofs.blocks.read_removed.Given as goal
+
+-- what is ahead, put behind what is there, is all
+abbrev pub invariant-loop-next : goal.invariant-loop-next
+invariant-loop-next l =
+    with_items l.draft (flat_map (removed_items l.api) l.children)
+    ≡ with_items l.fn.draft (flat_map (removed_items l.api) (elements_in l.element.content))
+
+abbrev pub decreases-loop-next : goal.decreases-loop-next
+decreases-loop-next l = length l.children

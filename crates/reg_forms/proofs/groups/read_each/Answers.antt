@@ -1,0 +1,12 @@
+use Rattle.std.specs.Prelude.{codes}
+use Rattle.reg_forms.specs.Enums.{is_held}
+use Rattle.reg_forms.specs.Attributes.{is_named}
+use Rattle.reg_forms.specs.Enums.{grouped_items}
+use Rattle.std.proofs.Common.{sym, ◌∙◌}
+use Rattle.reg_forms.proofs.ItemLemmas.{put_counted}
+use Rattle.reg_forms.proofs.groups.read_each.Goals as goal
+
+pub loop-next-preserved : goal.loop-next-preserved
+loop-next-preserved c =
+    put_counted (grouped_items c.args.api.now (is_held c.args.enum_types.now) c.args.role.now) (is_named (codes "enum")) c.loop-next.draft c.read_grouped.new.draft _ c.in-Some.next c.loop-next.children c.next.new.self
+    c.in-Some.ensures.first (sym c.is_named.ensures ∙ c.if-not-is_named.false) c.in_ok-read_grouped.ensures c.loop-next.invariant

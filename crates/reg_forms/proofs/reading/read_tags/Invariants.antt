@@ -1,0 +1,16 @@
+use Rattle.std.proofs.Common.{◌≡◌, filter, length}
+use Rattle.std.specs.List.{flat_map}
+use Rattle.reg_reader.specs.Views.{elements_in}
+use Rattle.std.specs.Prelude.{codes}
+use Rattle.reg_forms.specs.Attributes.{is_named}
+use Rattle.reg_forms.specs.Forms.{tag_items, with_items}
+use Rattle.reg_forms.proofs.reading.read_tags.Given as goal
+
+-- what is ahead, put behind what is there, is all
+abbrev pub invariant-loop-next : goal.invariant-loop-next
+invariant-loop-next l =
+    with_items l.draft (flat_map tag_items (filter (is_named (codes "tag")) l.children))
+    ≡ with_items l.fn.draft (flat_map tag_items (filter (is_named (codes "tag")) (elements_in l.element.content)))
+
+abbrev pub decreases-loop-next : goal.decreases-loop-next
+decreases-loop-next l = length l.children

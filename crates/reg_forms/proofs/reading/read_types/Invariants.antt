@@ -1,0 +1,17 @@
+use Rattle.std.proofs.Common.{◌≡◌, filter, length}
+use Rattle.std.specs.List.{flat_map}
+use Rattle.reg_reader.specs.Views.{elements_in}
+use Rattle.std.specs.Prelude.{codes}
+use Rattle.reg_forms.specs.Attributes.{is_named}
+use Rattle.reg_forms.specs.Declarations.{type_items}
+use Rattle.reg_forms.specs.Forms.{with_items}
+use Rattle.reg_forms.proofs.reading.read_types.Given as goal
+
+-- what is ahead, put behind what is there, is all
+abbrev pub invariant-loop-next : goal.invariant-loop-next
+invariant-loop-next l =
+    with_items l.draft (flat_map (type_items l.api) (filter (is_named (codes "type")) l.children))
+    ≡ with_items l.fn.draft (flat_map (type_items l.api) (filter (is_named (codes "type")) (elements_in l.element.content)))
+
+abbrev pub decreases-loop-next : goal.decreases-loop-next
+decreases-loop-next l = length l.children

@@ -1,0 +1,10 @@
+pub mod Attributes
+pub mod Declarations
+pub mod EnumAttributes
+pub mod EnumTypes
+pub mod Enums
+pub mod Forms
+pub mod Items
+pub mod Options
+pub mod Parts
+pub mod Sizes

@@ -1,0 +1,4 @@
+mod attributes;
+mod faults;
+mod forms;
+mod parts;
