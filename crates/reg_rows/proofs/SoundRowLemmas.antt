@@ -1,0 +1,134 @@
+-- The rows of a registry are sound: what they name is there, and nothing in them is too long.
+use Rattle.std.proofs.Common.{◌≡◌, ◌≤◌, ◌<◌, ◌+◌, ℕ, Bool, true, false, not, cond, List, [], ◌∷◌, length, map, filter, slice_index_or, All, codes, arith}
+use Rattle.std.specs.List.{filter_map}
+use Rattle.std.specs.Str.{bytes_eq}
+use Rattle.std.proofs.lemmas.Bool.{cond_both}
+use Rattle.std.proofs.lemmas.List.{length-append, length-map}
+use Rattle.std.proofs.lemmas.List.Elements.{All-filter, All-map, All-nil, All-weaker}
+use Rattle.vkb_formula.specs.Names.{place_of}
+use Rattle.reg_forms.specs.Attributes.{is_name}
+use Rattle.reg_forms.specs.Declarations.{is_enum_row}
+use Rattle.reg_forms.specs.Sizes.{AreSmall, IsSmallDeclaration, IsSmallMember}
+use Rattle.reg_forms.specs.declared.forms.Declaration.{Declaration}
+use Rattle.reg_forms.specs.declared.forms.EnumForm.{EnumForm}
+use Rattle.reg_forms.specs.declared.forms.Forms.{Forms}
+use Rattle.reg_forms.specs.declared.forms.MemberForm.{MemberForm}
+use Rattle.reg_rows.specs.Lists.{each_number, firsts}
+use Rattle.reg_rows.specs.Naming.{IsShort, IsSoundEnumerant, IsSoundMember, IsSoundRow, most_bytes}
+use Rattle.reg_rows.specs.Rows.{blocks_with, declared_in, enumerant_row, id_at, id_of, lists_value, member_row, mentioned, named_of, names_in, row_of, values_of}
+use Rattle.reg_rows.specs.Tables.{is_mask64, shape_of}
+use Rattle.reg_rows.proofs.ApartLemmas.{all-firsts, length-firsts}
+use Rattle.reg_rows.proofs.ListLemmas.{all-filter_map, all-numbers, length-filter-le, length-filter_map, length-numbers}
+use Rattle.reg_rows.proofs.WithinLemmas.{IsThere, id-within, known-within, named-by, numbers-there, place-within}
+
+module _ (f : Forms) where
+  -- what a row names is there
+  pub names-there : (d : Declaration) → All (IsThere (names_in f)) (named_of f d)
+  names-there d =
+      let others = filter (λ name. not (bytes_eq d.name name)) (mentioned f d) in
+      numbers-there (names_in f) (filter_map (λ name. place_of name (names_in f)) others)
+      (all-filter_map (λ name. place_of name (names_in f)) (λ place. place < length (names_in f)) (place-within (names_in f)) others)
+
+  length-mentioned : (d : Declaration) → length (mentioned f d) ≤ length d.mentions + 1
+  length-mentioned d =
+      let flags = cond_both (is_mask64 (shape_of f d)) (codes "VkFlags64" ∷ []) [] (λ names. length names ≤ 1) (λ t. omega arith) (λ t. omega arith) in
+      omega (arith, flags, length-append (map (λ m. m.name) d.mentions) (cond (is_mask64 (shape_of f d)) (codes "VkFlags64" ∷ []) []), length-map d.mentions (λ m. m.name))
+
+  length-named : (d : Declaration) → length (named_of f d) ≤ length d.mentions + 1
+  length-named d =
+      let others = filter (λ name. not (bytes_eq d.name name)) (mentioned f d) in
+      let places = filter_map (λ name. place_of name (names_in f)) others in
+      omega (
+        arith,
+        length-mentioned d,
+        length-filter-le (λ name. not (bytes_eq d.name name)) (mentioned f d),
+        length-filter_map (λ name. place_of name (names_in f)) others,
+        length-numbers places,
+        length-map (each_number places) id_at,
+      )
+
+  -- where a row stands there is a name
+  pub some-name : (k : ℕ) → k < length (declared_in f) → 0 < length (names_in f)
+  some-name k h = omega (arith, h, length-map (declared_in f) (λ d. d.name))
+
+  module _ (small : AreSmall most_bytes f) where
+    member-sound : 0 < length (names_in f) → (m : MemberForm) → IsSmallMember most_bytes m → IsSoundMember (length (names_in f)) (member_row (names_in f) m)
+    member-sound some m h = record {
+      base = known-within (names_in f) m.base some;
+      name_short = h.name;
+      text_short = h.text;
+      values_short = h.values;
+      len_short = h.len;
+      stars_few = h.stars;
+    }
+
+    blocks-there : (adds : Bool) (name : List ℕ) → All (λ place. place < length f.blocks) (blocks_with f adds name)
+    blocks-there adds name =
+        let listed = filter (lists_value f adds name) f.entries in
+        all-numbers (λ place. place < length f.blocks) (map (λ entry. entry.block) listed)
+        (All-map (λ place. place < length f.blocks) (λ entry. entry.block) listed
+        (All-filter (lists_value f adds name) (λ entry. entry.block < length f.blocks) f.entries small.each_entry))
+
+    blocks-short : (adds : Bool) (name : List ℕ) → IsShort (blocks_with f adds name)
+    blocks-short adds name =
+        let listed = filter (lists_value f adds name) f.entries in
+        omega (arith, length-numbers (map (λ entry. entry.block) listed), length-map listed (λ entry. entry.block), length-filter-le (lists_value f adds name) f.entries, small.entries)
+
+    enumerant-sound : (e : EnumForm) → (is_name e.name ≡ true) × (length e.name ≤ most_bytes) → IsSoundEnumerant (length f.blocks) (enumerant_row f e)
+    enumerant-sound e h = record {
+      required = blocks-there true e.name;
+      removed = blocks-there false e.name;
+      name_short = h.1;
+      required_short = blocks-short true e.name;
+      removed_short = blocks-short false e.name;
+    }
+
+    module _ (d : Declaration) where
+      abbrev rows : List EnumForm
+      rows = filter (λ e. bytes_eq d.name e.of) (firsts (λ e. e.name) f.enumerants)
+
+      values-sound : All (IsSoundEnumerant (length f.blocks)) (values_of f d)
+      values-sound =
+          cond_both (is_enum_row d) (map (enumerant_row f) rows) [] (All (IsSoundEnumerant (length f.blocks)))
+          (λ t. All-map (IsSoundEnumerant (length f.blocks)) (enumerant_row f) rows
+          (All-weaker (λ e. (is_name e.name ≡ true) × (length e.name ≤ most_bytes)) (λ e. IsSoundEnumerant (length f.blocks) (enumerant_row f e)) enumerant-sound rows
+          (All-filter (λ e. bytes_eq d.name e.of) (λ e. (is_name e.name ≡ true) × (length e.name ≤ most_bytes)) (firsts (λ e. e.name) f.enumerants)
+          (all-firsts (λ e. e.name) (λ e. (is_name e.name ≡ true) × (length e.name ≤ most_bytes)) [] f.enumerants small.each_enumerant))))
+          (λ t. All-nil (IsSoundEnumerant (length f.blocks)))
+
+      values-short : IsShort (values_of f d)
+      values-short =
+          cond_both (is_enum_row d) (map (enumerant_row f) rows) [] IsShort
+          (λ t. omega (arith, length-map rows (enumerant_row f), length-filter-le (λ e. bytes_eq d.name e.of) (firsts (λ e. e.name) f.enumerants), length-firsts (λ e. e.name) [] f.enumerants, small.enumerants))
+          (λ t. omega arith)
+
+      pub row-sound : 0 < length (names_in f) → IsSmallDeclaration most_bytes d → IsSoundRow (length (names_in f)) (length f.blocks) (row_of f d)
+      row-sound some h = record {
+        alias = named-by (names_in f) d.alias;
+        bits = named-by (names_in f) d.bits;
+        extends = all-filter_map (id_of (names_in f)) (IsThere (names_in f)) (id-within (names_in f)) d.extends;
+        named = names-there d;
+        members =
+            All-map (IsSoundMember (length (names_in f))) (member_row (names_in f)) d.members
+            (All-weaker (IsSmallMember most_bytes) (λ m. IsSoundMember (length (names_in f)) (member_row (names_in f) m)) (member-sound some) d.members h.each_member);
+        values = values-sound;
+        text_short = h.text;
+        result_short = h.result;
+        members_short = omega (arith, length-map d.members (member_row (names_in f)), h.members);
+        extends_short = omega (arith, length-filter_map (id_of (names_in f)) d.extends, h.extends);
+        values_short = values-short;
+        named_short = omega (arith, length-named d, h.mentions);
+      }
+
+    small-declared : All (IsSmallDeclaration most_bytes) (declared_in f)
+    small-declared = all-firsts (λ d. d.name) (IsSmallDeclaration most_bytes) [] f.declarations small.each_declaration
+
+    pub rows-sound : All (IsSoundRow (length (names_in f)) (length f.blocks)) (map (row_of f) (declared_in f))
+    rows-sound =
+        All-map (IsSoundRow (length (names_in f)) (length f.blocks)) (row_of f) (declared_in f)
+        (λ k d h. row-sound (slice_index_or (declared_in f) k d) (some-name k h) (small-declared k d h))
+
+    pub names-named : All (λ name. is_name name ≡ true) (names_in f)
+    names-named =
+        All-map (λ name. is_name name ≡ true) (λ d. d.name) (declared_in f)
+        (All-weaker (IsSmallDeclaration most_bytes) (λ d. is_name d.name ≡ true) (λ d h. h.named) (declared_in f) small-declared)

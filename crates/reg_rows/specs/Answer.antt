@@ -1,0 +1,41 @@
+-- What is answered for a registry, by what its elements come to.
+use Rattle.std.specs.Prelude.{◌≡◌, ◌≢◌, ℕ, List, [], map, Option, Some, None, Result, Ok, Err, All, ⊤}
+use Rattle.vkb_formula.specs.Expressions.{Expression, IsNoExpression, Spells}
+use Rattle.reg_forms.specs.declared.forms.Forms.{Forms}
+use Rattle.reg_rows.specs.Bits.{Readings}
+use Rattle.reg_rows.specs.Faults.{IsFirst, faults_of}
+use Rattle.reg_rows.specs.Naming.{IsNamingCycle}
+use Rattle.reg_rows.specs.Rows.{Rows, rows_of}
+use Rattle.reg_rows.specs.Tables.{features_in}
+use Rattle.reg_rows.specs.declared.fault.RowFault.{RowFault}
+use Rattle.reg_rows.specs.declared.fault.RowFault.TheVariants.{Bad, NoFeature, NamingCycle, Memory}
+
+-- the text is this expression, or none
+abbrev pub IsReadAs : List ℕ → Option Expression → Type 0
+IsReadAs text (Some e) = Spells e text
+IsReadAs text None = IsNoExpression text
+
+-- the `depends` texts are read so
+pub record AreReadings (f : Forms) (readings : Readings) : Type 0 where
+  pub texts : map (λ reading. reading.0) readings ≡ f.texts
+  pub each : All (λ reading. IsReadAs reading.0.text reading.1) readings
+
+-- there is one way to read them
+abbrev pub AreReadOnce : Forms → Type 0
+AreReadOnce f = (readings other : Readings) → AreReadings f readings → AreReadings f other → other ≡ readings
+
+-- nothing is wrong with it
+pub record IsAccepted (f : Forms) (readings : Readings) : Type 0 where
+  pub read : AreReadings f readings
+  pub sound : faults_of f readings ≡ []
+  pub offered : features_in f ≢ []
+
+-- The first fault, or that no feature is there, or that names are a circle, or else the rows. Of several circles through the first name
+-- any may be told, and want of memory may be told in the place of all.
+abbrev pub IsAnswer : Forms → Result Rows RowFault → Type 0
+IsAnswer f (Ok rows) = (readings : Readings) × IsAccepted f readings × (rows ≡ rows_of f readings)
+IsAnswer f (Err (Bad code at word)) =
+    (readings : Readings) × AreReadings f readings × IsFirst (faults_of f readings) (record { code = code; at = at; word = word })
+IsAnswer f (Err NoFeature) = (readings : Readings) × AreReadings f readings × (faults_of f readings ≡ []) × (features_in f ≡ [])
+IsAnswer f (Err (NamingCycle names)) = (readings : Readings) × IsAccepted f readings × IsNamingCycle (rows_of f readings) names
+IsAnswer f (Err Memory) = ⊤
