@@ -3,6 +3,7 @@ use Rattle.std.proofs.Common.{◌≡◌, ℕ, zero, suc, ◌+◌, ◌-◌, ◌<�
 use Rattle.std.specs.Option.{option_and_then}
 use Rattle.std.specs.List.{list_all}
 use Rattle.std.proofs.lemmas.List.{append_assoc, append-nil, take-append-drop, take_more, get_or_default, take_all, take-take}
+use Rattle.std.proofs.lemmas.Option.{none-some}
 use Rattle.std.proofs.lemmas.Bool.{and_parts, or_cases, ltb-true, eqb-true, and_from, false≢true, cases_lt}
 use Rattle.vkb_bytes.specs.Bytes.{is_word_byte}
 use Rattle.vkb_formula.specs.Expressions.{Atom, Expression, Name, Group, Single, Both, Either, IsWord, IsMember, IsName, IsAtom, IsExpression, atom_text, expression_text, atom_nesting, nesting_of, atom_words, words_in, Spells, IsFront, IsNoExpression, IsStop}
@@ -501,3 +502,16 @@ stopped-at text at m within e dead = stopped text at (get_or text at 0) m within
 
 pub read-more-at : (text : List ℕ) (at : ℕ) (m n : Mark) → at < length text → run start (take at text) ≡ Some m → step m (get_or text at 0) ≡ Some n → run start (take (at + 1) text) ≡ Some n
 read-more-at text at m n within e next = read-more text at (get_or text at 0) m n within (get_or_default text at 0 (get_or text at 0) within) e next
+
+read-or-none : (text : List ℕ) (o : Option Mark) → run start text ≡ o → ((e : Expression) × Spells e text) ⊎ IsNoExpression text
+read-or-none text None r =
+    inr (λ e s. let f = front-read text ([], e, subst (Spells e) (sym (append-nil text)) s) in none-some f.0 (sym r ∙ f.1))
+read-or-none text (Some m) r = whole-or-not (is_whole m) refl
+  where
+    whole-or-not : (b : Bool) → is_whole m ≡ b → ((e : Expression) × Spells e text) ⊎ IsNoExpression text
+    whole-or-not true w = inl (whole-spelled text m r w)
+    whole-or-not false w = inr (unended text m r w).0
+
+-- a text is an expression or it is none
+pub each-read : (text : List ℕ) → ((e : Expression) × Spells e text) ⊎ IsNoExpression text
+each-read text = read-or-none text (run start text) refl

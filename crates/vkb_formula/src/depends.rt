@@ -1,5 +1,5 @@
-ghost use Rattle.std.specs.Prelude.{◌≡◌, ◌<◌, ◌^◌, ◌++◌, ◌≤◌, ◌≢◌, ◌↔◌, ℕ, length, take, map, slice_range, Bool, List, None, IfOk, IfErr, All};
-ghost use Rattle.vkb_formula.specs.Expressions.{Expression, Spells, formula_of, holds, has_option, places_of, words_in, names_of, IsSized, IsFront, IsStop};
+ghost use Rattle.std.specs.Prelude.{◌≡◌, ◌<◌, ◌^◌, ◌++◌, ◌≤◌, ◌≢◌, ◌↔◌, ℕ, length, take, map, slice_range, Bool, List, None, IfOk, IfErr, All, ◌⊎◌};
+ghost use Rattle.vkb_formula.specs.Expressions.{Expression, Spells, formula_of, holds, has_option, places_of, words_in, names_of, IsNoExpression, IsSized, IsFront, IsStop};
 ghost use Rattle.vkb_formula.specs.Formulas.{value_of, reach_of};
 ghost use Rattle.vkb_formula.specs.Building.{runs_of};
 ghost use Rattle.vkb_formula.specs.Faults.{IsStopFault, GivesOrMemory, GivesItemsOrMemory};
@@ -93,6 +93,11 @@ pub fn a_stop_is_the_longest_front()
 /// A law: a text is one expression at most.
 pub fn a_text_is_one_expression()
     ensures { (e f : Expression) (text : List ℕ) → Spells e text → Spells f text → e ≡ f }
+{}
+
+/// A law: a text is an expression or it is none.
+pub fn each_text_is_read()
+    ensures { (text : List ℕ) → ((e : Expression) × Spells e text) ⊎ IsNoExpression text }
 {}
 
 /// Whether a text is an expression.

@@ -12,7 +12,8 @@ mod names;
 mod pool;
 
 pub use depends::{
-    ExprFault, a_stop_is_the_longest_front, a_text_is_one_expression, read_depends, words_of,
+    ExprFault, a_stop_is_the_longest_front, a_text_is_one_expression, each_text_is_read,
+    read_depends, words_of,
 };
 pub use formula::{Formula, all, any, not};
 pub use name_set::NameSet;
