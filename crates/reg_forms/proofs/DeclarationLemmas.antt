@@ -1,7 +1,7 @@
 -- What the elements of types and commands say, case by case.
 use Rattle.std.proofs.Common.{◌≡◌, ℕ, List, [], ◌∷◌, ◌++◌, true, false, Some, None, codes, is_some, map, cond, ap, ◌∙◌}
+use Rattle.reg_registry.specs.declared.kinds.Kind.{Kind}
 use Rattle.reg_reader.specs.Views.{Element}
-use Rattle.reg_forms.specs.declared.forms.Kind.{Kind}
 use Rattle.reg_forms.specs.Attributes.{counts, has, value_of}
 use Rattle.reg_forms.specs.Declarations.{kind_of, is_named_within, type_items, type_mentions, type_name, type_row}
 use Rattle.reg_forms.specs.Items.{Item, bad_at}

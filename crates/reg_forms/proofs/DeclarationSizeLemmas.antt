@@ -7,10 +7,10 @@ use Rattle.std.proofs.lemmas.List.Elements.{All-cons, All-nil}
 use Rattle.std.proofs.lemmas.List.Sums.{sum_by-cons}
 use Rattle.std.proofs.lemmas.Option.{IfSome_then}
 use Rattle.vkb_bytes.specs.Trimming.{trim}
+use Rattle.reg_registry.specs.declared.kinds.Kind.{Kind}
+use Rattle.reg_registry.specs.declared.kinds.Kind.TheVariants as kind
 use Rattle.reg_reader.specs.Views.{Element, element_size}
 use Rattle.reg_forms.specs.declared.forms.Declaration.{Declaration}
-use Rattle.reg_forms.specs.declared.forms.Kind.{Kind}
-use Rattle.reg_forms.specs.declared.forms.Kind.TheVariants as kind
 use Rattle.reg_forms.specs.declared.forms.MemberForm.{MemberForm}
 use Rattle.reg_forms.specs.declared.forms.Mention.{Mention}
 use Rattle.reg_forms.specs.declared.forms.RowCode.TheVariants.{DuplicateName}

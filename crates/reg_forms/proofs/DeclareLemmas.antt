@@ -1,12 +1,12 @@
 -- Types and commands, put in piece by piece.
-use Rattle.std.proofs.Common.{◌≡◌, ℕ, List, [], ◌∷◌, ◌++◌, Bool, true, false, Option, Some, None, codes, is_some, map, cond, sym, ap, ◌∙◌}
+use Rattle.std.proofs.Common.{◌≡◌, ℕ, List, [], ◌∷◌, ◌++◌, Bool, true, false, Option, Some, None, codes, is_some, map, cond, ap, ◌∙◌}
 use Rattle.std.specs.Option.{option_map_or}
 use Rattle.std.proofs.lemmas.List.{append-nil}
+use Rattle.reg_registry.specs.declared.kinds.Kind.{Kind}
+use Rattle.reg_registry.specs.declared.kinds.Kind.TheVariants as kind
 use Rattle.reg_reader.specs.Views.{Element}
 use Rattle.reg_forms.specs.declared.forms.Declaration.{Declaration}
 use Rattle.reg_forms.specs.declared.forms.Forms.{Forms}
-use Rattle.reg_forms.specs.declared.forms.Kind.{Kind}
-use Rattle.reg_forms.specs.declared.forms.Kind.TheVariants as kind
 use Rattle.reg_forms.specs.declared.forms.Mention.{Mention}
 use Rattle.reg_forms.specs.declared.forms.Sort.TheVariants as sort
 use Rattle.reg_forms.specs.Attributes.{child, children, counts, has, has_value, parts_of, value_of}

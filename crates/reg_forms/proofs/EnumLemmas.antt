@@ -3,11 +3,12 @@ use Rattle.std.proofs.Common.{◌≡◌, ℕ, List, [], Bool, true, false, map, 
 use Rattle.std.specs.Prelude.{codes}
 use Rattle.std.specs.Str.{bytes_eq}
 use Rattle.std.proofs.lemmas.Bool.{cond-true, cond-false}
+use Rattle.reg_registry.specs.Words.{is_name}
 use Rattle.reg_reader.specs.Views.{Element}
 use Rattle.reg_forms.specs.declared.enum_attributes.Role.{Role}
 use Rattle.reg_forms.specs.declared.enum_attributes.Role.TheVariants as standing
 use Rattle.reg_forms.specs.declared.forms.RowCode.TheVariants.{BadAttribute}
-use Rattle.reg_forms.specs.Attributes.{counts, is_name}
+use Rattle.reg_forms.specs.Attributes.{counts}
 use Rattle.reg_forms.specs.Enums.{enum_items, enum_words, group_items, named_group}
 use Rattle.reg_forms.specs.Items.{Item, bad_at}
 use Rattle.reg_forms.proofs.ItemLemmas.{unless_bad-some}

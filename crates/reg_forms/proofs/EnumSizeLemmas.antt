@@ -6,6 +6,7 @@ use Rattle.std.specs.Str.{bytes_eq}
 use Rattle.std.proofs.lemmas.Bool.{cond_both, true≢false}
 use Rattle.std.proofs.lemmas.List.Elements.{All-cons, All-nil}
 use Rattle.std.proofs.lemmas.List.Sums.{sum_by-cons}
+use Rattle.reg_registry.specs.Words.{is_name}
 use Rattle.reg_reader.specs.Views.{Element, content_size, element_size}
 use Rattle.reg_forms.specs.declared.enum_attributes.Role.{Role}
 use Rattle.reg_forms.specs.declared.enum_attributes.Role.TheVariants as standing
@@ -13,7 +14,7 @@ use Rattle.reg_forms.specs.declared.forms.Given.{Given}
 use Rattle.reg_forms.specs.declared.forms.Mention.{Mention}
 use Rattle.reg_forms.specs.declared.forms.RowCode.TheVariants.{UnknownName}
 use Rattle.reg_forms.specs.declared.forms.Sort.TheVariants as sort
-use Rattle.reg_forms.specs.Attributes.{counts, is_name, name_in, name_of, value_of, word_if}
+use Rattle.reg_forms.specs.Attributes.{counts, name_in, name_of, value_of, word_if}
 use Rattle.reg_forms.specs.Enums.{constant_row, entry_of, enum_items, enum_row, enum_words, enums_items, given_of, group_items, group_words, grouped_items, is_bad_offset, is_bad_value, is_lost, named_group, own_name, role_items, strays}
 use Rattle.reg_forms.specs.Items.{Item, bad_at, wrong_at}
 use Rattle.reg_forms.specs.Sizes.{IsSmallDeclaration}

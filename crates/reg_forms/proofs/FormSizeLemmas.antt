@@ -3,6 +3,7 @@ use Rattle.std.proofs.Common.{◌≡◌, ℕ, suc, ◌+◌, ◌-◌, ◌<◌, �
 use Rattle.std.specs.Prelude.{All, IfSome, sum_by}
 use Rattle.std.proofs.lemmas.List.Elements.{All-append, All-cons, All-head, All-nil, All-push, All-tail, All-weaker}
 use Rattle.std.proofs.lemmas.List.Sums.{sum_by-cons}
+use Rattle.reg_registry.specs.Words.{is_name}
 use Rattle.reg_reader.specs.Views.{Element, element_size}
 use Rattle.reg_forms.specs.declared.forms.BlockForm.{BlockForm}
 use Rattle.reg_forms.specs.declared.forms.DependsText.{DependsText}
@@ -11,13 +12,13 @@ use Rattle.reg_forms.specs.declared.forms.EnumForm.{EnumForm}
 use Rattle.reg_forms.specs.declared.forms.Forms.{Forms}
 use Rattle.reg_forms.specs.declared.forms.Mention.{Mention}
 use Rattle.reg_forms.specs.declared.forms.OptionForm.{OptionForm}
-use Rattle.reg_forms.specs.Attributes.{is_name}
 use Rattle.reg_forms.specs.Options.{is_option_name}
 use Rattle.reg_forms.specs.Forms.{forms_of, items_of, no_forms, text_at, with_item, with_items}
 use Rattle.reg_forms.specs.Items.{Item}
 use Rattle.reg_forms.specs.Sizes.{AreSmall, IsSmallDeclaration, NeverFall}
 use Rattle.reg_forms.proofs.ItemSizeLemmas.{Fits, IsCount, IsOrdered, IsSmallItem, ordered-more}
 use Rattle.reg_forms.proofs.RootSizeLemmas.{items-fit}
+use Rattle.reg_forms.proofs.VersionLemmas.{versions-differ}
 
 -- how much one thing adds to a list
 abbrev adds : (Forms → ℕ) → Item → ℕ
@@ -251,6 +252,7 @@ forms-small api root =
       each_enumerant = small.each_enumerant;
       options = few options (omega arith) options-grow options-count most items fits;
       each_option = small.each_option;
+      numbers_differ = versions-differ api root;
       blocks = few blocks (omega arith) blocks-grow blocks-count most items fits;
       each_block = ordered.each_block;
       entries = few entries (omega arith) entries-grow entries-count most items fits;

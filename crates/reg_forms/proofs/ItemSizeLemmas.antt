@@ -6,6 +6,7 @@ use Rattle.std.proofs.lemmas.Bool.{cond_both}
 use Rattle.std.proofs.lemmas.List.Elements.{All-append, All-cons, All-nil, All-weaker}
 use Rattle.std.proofs.lemmas.List.Sums.{sum_by-append, sum_by-cons}
 use Rattle.std.proofs.lemmas.Option.{IfSome_then}
+use Rattle.reg_registry.specs.Words.{is_name}
 use Rattle.reg_reader.specs.Views.{Content, Element, content_size, element_size, elements_in}
 use Rattle.reg_forms.specs.declared.forms.Declaration.{Declaration}
 use Rattle.reg_forms.specs.declared.forms.EnumForm.{EnumForm}
@@ -13,7 +14,6 @@ use Rattle.reg_forms.specs.declared.forms.Fault.{Fault}
 use Rattle.reg_forms.specs.declared.forms.GroupForm.{GroupForm}
 use Rattle.reg_forms.specs.declared.forms.MemberForm.{MemberForm}
 use Rattle.reg_forms.specs.declared.forms.Mention.{Mention}
-use Rattle.reg_forms.specs.Attributes.{is_name}
 use Rattle.reg_forms.specs.Options.{is_option_name}
 use Rattle.reg_forms.specs.Items.{Item, bad_at, unless_bad}
 use Rattle.reg_forms.specs.Sizes.{IsSmallDeclaration, IsSmallMember}

@@ -19,4 +19,6 @@ pub mod ReadingLemmas
 pub mod RepeatLemmas
 pub mod RootSizeLemmas
 pub mod RowLemmas
+pub mod SilentLemmas
 pub mod TextSizeLemmas
+pub mod VersionLemmas

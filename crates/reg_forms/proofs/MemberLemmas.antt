@@ -6,9 +6,9 @@ use Rattle.std.proofs.lemmas.Bool.{cond-true, cond-false}
 use Rattle.std.proofs.lemmas.Grind.{flat_map-append}
 use Rattle.std.proofs.lemmas.List.{append_assoc, map-append}
 use Rattle.std.proofs.lemmas.List.Elements.{filter-append}
+use Rattle.reg_registry.specs.declared.kinds.Kind.{Kind}
 use Rattle.reg_reader.specs.Views.{Element}
 use Rattle.reg_forms.specs.declared.forms.Forms.{Forms}
-use Rattle.reg_forms.specs.declared.forms.Kind.{Kind}
 use Rattle.reg_forms.specs.declared.forms.MemberForm.{MemberForm}
 use Rattle.reg_forms.specs.declared.forms.Mention.{Mention}
 use Rattle.reg_forms.specs.Attributes.{counts}

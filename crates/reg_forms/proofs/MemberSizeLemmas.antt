@@ -7,10 +7,11 @@ use Rattle.std.proofs.lemmas.List.{length-map}
 use Rattle.std.proofs.lemmas.List.Elements.{All-cons, All-filter, All-head, All-nil, All-tail, All-weaker}
 use Rattle.std.proofs.lemmas.Option.{IfSome_then}
 use Rattle.vkb_bytes.specs.Trimming.{collapse}
+use Rattle.reg_registry.specs.declared.kinds.Kind.{Kind}
+use Rattle.reg_registry.specs.declared.kinds.Kind.TheVariants as kind
+use Rattle.reg_registry.specs.Words.{is_name}
 use Rattle.reg_reader.specs.Views.{Content, Element, content_size, element_size, elements_in, text_before}
-use Rattle.reg_forms.specs.declared.forms.Kind.{Kind}
-use Rattle.reg_forms.specs.declared.forms.Kind.TheVariants as kind
-use Rattle.reg_forms.specs.Attributes.{child, children, counts, is_name, is_named, name_in, text_of}
+use Rattle.reg_forms.specs.Attributes.{child, children, counts, is_named, name_in, text_of}
 use Rattle.reg_forms.specs.Parts.{is_sound, member_of, members_in, proto_in, result_of, sound_members}
 use Rattle.reg_forms.specs.Sizes.{IsSmallMember}
 use Rattle.reg_forms.proofs.ItemSizeLemmas.{member-more}

@@ -4,11 +4,12 @@ use Rattle.std.specs.Prelude.{◌||◌, codes, is_none}
 use Rattle.std.specs.List.{flat_map}
 use Rattle.std.specs.Option.{option_map_or}
 use Rattle.std.proofs.lemmas.Bool.{cond_both, true≢false}
+use Rattle.reg_registry.specs.Words.{is_name}
 use Rattle.reg_reader.specs.Views.{Element, content_size, element_size, elements_in}
 use Rattle.reg_forms.specs.declared.forms.RowCode.TheVariants.{ApiType}
 use Rattle.reg_forms.specs.declared.forms.Sort.{Sort}
 use Rattle.reg_forms.specs.declared.forms.Sort.TheVariants as sort
-use Rattle.reg_forms.specs.Attributes.{counts, has, is_bad_number, is_name, is_named, lists, name_in, name_of, value_of, word_if}
+use Rattle.reg_forms.specs.Attributes.{counts, has, is_bad_number, is_named, lists, name_in, name_of, value_of, word_if}
 use Rattle.reg_forms.specs.Enums.{enum_items, number_in, own_name, role_in_block}
 use Rattle.reg_forms.specs.Items.{Item, bad_at, wrong_at}
 use Rattle.reg_forms.specs.Options.{block_items, blocks_of, extension_items, extension_words, feature_items, feature_words, is_bad_name, is_option_name, is_taken, named_entry, removed_items, required_items, supported_items, version_of}

@@ -4,9 +4,9 @@ use Rattle.std.specs.List.{filter_map, flat_map}
 use Rattle.std.proofs.lemmas.Grind.{flat_map-append}
 use Rattle.std.proofs.lemmas.List.{append-nil}
 use Rattle.std.proofs.lemmas.List.Elements.{filter_map-append}
+use Rattle.reg_registry.specs.declared.kinds.Kind.{Kind}
 use Rattle.reg_reader.specs.Views.{Element}
 use Rattle.reg_forms.specs.declared.forms.Declaration.{Declaration}
-use Rattle.reg_forms.specs.declared.forms.Kind.{Kind}
 use Rattle.reg_forms.specs.Attributes.{children, counts, is_named, value_of}
 use Rattle.reg_forms.specs.Declarations.{declaration_in, is_enum_kind, is_enum_row, kind_of, type_items, type_name, type_row}
 use Rattle.reg_forms.specs.EnumTypes.{AreNamesOf, rows_in, rows_of}

@@ -11,8 +11,9 @@ use Rattle.std.proofs.lemmas.Option.{IfSome_then}
 use Rattle.std.proofs.lemmas.Slice.Eq.{bytes_eq-Decides}
 use Rattle.vkb_bytes.specs.Bytes.{is_white}
 use Rattle.vkb_bytes.specs.Trimming.{begins_white, collapse, spaced, trim, trim_start}
+use Rattle.reg_registry.specs.Words.{is_name}
 use Rattle.reg_reader.specs.Views.{Content, Element, attribute_size, content_size, element_size, elements_in, text_before, text_in, value_in}
-use Rattle.reg_forms.specs.Attributes.{child, first_part, is_name, is_named, name_in, name_of, parts_of, text_of, value_of, value_or_empty, with_byte}
+use Rattle.reg_forms.specs.Attributes.{child, first_part, is_named, name_in, name_of, parts_of, text_of, value_of, value_or_empty, with_byte}
 use Rattle.reg_forms.specs.Parts.{name_inside, text_inside}
 
 pub filter-few : {A : Type 0} (test : A → Bool) (xs : List A) → length (filter test xs) ≤ length xs

@@ -1,11 +1,12 @@
 -- What the attributes and children of an element say, in the forms of the registry manual (`registry.html`). Which bytes a name has,
 -- and how many digits a number, is this tool's own.
-use Rattle.std.specs.Prelude.{ℕ, Bool, true, false, not, ◌&&◌, ◌==◌, nat_le, nat_lt, List, [], ◌∷◌, ◌++◌, length, filter, Option, Some, None, is_some, is_none, codes, if◌then◌else◌}
-use Rattle.std.specs.List.{list_all, list_any, find}
+use Rattle.std.specs.Prelude.{ℕ, Bool, true, false, ◌==◌, List, [], ◌∷◌, length, filter, Option, Some, None, is_some, is_none, codes, if◌then◌else◌}
+use Rattle.std.specs.List.{list_any, find}
 use Rattle.std.specs.Option.{option_map_or}
 use Rattle.std.specs.Str.{bytes_eq}
 use Rattle.vkb_bytes.specs.Numbers.{short_numeral_of}
-use Rattle.reg_reader.specs.Views.{Content, Element, elements_in, text_in, value_in}
+use Rattle.reg_registry.specs.Words.{is_name}
+use Rattle.reg_reader.specs.Views.{Element, elements_in, text_in, value_in}
 
 -- the value of an attribute, with references undone
 abbrev pub value_of : List ℕ → Element → Option (List ℕ)
@@ -62,10 +63,6 @@ lists attribute name e = option_map_or (λ value. list_any (bytes_eq name) (part
 -- the element is one of this API: its list of them names it, or it has none
 abbrev pub counts : List ℕ → Element → Bool
 counts api e = if has (codes "api") e then lists (codes "api") api e else true
-
--- a name is bytes from 33 to 126, at least one
-abbrev pub is_name : List ℕ → Bool
-is_name text = nat_lt 0 (length text) && list_all (λ byte. nat_le 33 byte && nat_le byte 126) text
 
 -- the value of an attribute, where it is a name
 abbrev pub name_in : Option (List ℕ) → Option (List ℕ)

@@ -1,13 +1,13 @@
 -- Types and commands: which elements declare one, and what it is (registry manual, the tags `type` and `command`).
-use Rattle.std.specs.Prelude.{ℕ, Bool, true, false, not, ◌&&◌, ◌||◌, List, [], ◌∷◌, ◌++◌, filter, map, Option, Some, None, is_some, is_none, option_map, codes, if◌then◌else◌}
+use Rattle.std.specs.Prelude.{ℕ, Bool, true, false, not, ◌&&◌, ◌||◌, List, [], ◌∷◌, ◌++◌, map, Option, Some, None, is_some, is_none, codes, if◌then◌else◌}
 use Rattle.std.specs.List.{filter_map, find, flat_map}
 use Rattle.std.specs.Option.{option_map_or, option_or}
 use Rattle.std.specs.Str.{bytes_eq}
 use Rattle.vkb_bytes.specs.Trimming.{trim}
+use Rattle.reg_registry.specs.declared.kinds.Kind.{Kind}
+use Rattle.reg_registry.specs.declared.kinds.Kind.TheVariants as kind
 use Rattle.reg_reader.specs.Views.{Element}
 use Rattle.reg_forms.specs.declared.forms.Declaration.{Declaration}
-use Rattle.reg_forms.specs.declared.forms.Kind.{Kind}
-use Rattle.reg_forms.specs.declared.forms.Kind.TheVariants as kind
 use Rattle.reg_forms.specs.declared.forms.Mention.{Mention}
 use Rattle.reg_forms.specs.declared.forms.Sort.TheVariants as sort
 use Rattle.reg_forms.specs.Attributes.{child, children, counts, has, has_value, name_of, parts_of, text_of, value_of, word_if}

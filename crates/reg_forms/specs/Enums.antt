@@ -1,10 +1,14 @@
 -- Enumerants and constants: what an element `enum` says, by where it stands (registry manual, the tags `enums` and `enum`).
-use Rattle.std.specs.Prelude.{ℕ, ◌+◌, Bool, true, false, not, ◌&&◌, ◌||◌, nat_lt, List, [], ◌∷◌, ◌++◌, length, filter, map, Option, Some, None, Result, Ok, Err, is_some, is_none, option_map, codes, if◌then◌else◌}
-use Rattle.std.specs.List.{flat_map, list_any}
+use Rattle.std.specs.Prelude.{ℕ, Bool, true, false, not, ◌&&◌, ◌||◌, nat_lt, List, [], ◌∷◌, ◌++◌, length, filter, Option, None, is_some, is_none, option_map, codes, if◌then◌else◌}
+use Rattle.std.specs.List.{flat_map}
 use Rattle.std.specs.Option.{option_flatten, option_map_or, option_or}
 use Rattle.std.specs.Str.{bytes_eq}
 use Rattle.vkb_bytes.specs.Numbers.{short_numeral_of}
 use Rattle.vkb_formula.specs.Names.{place_of}
+use Rattle.reg_registry.specs.declared.kinds.Kind.TheVariants as kind
+use Rattle.reg_registry.specs.declared.kinds.Shape.{Shape}
+use Rattle.reg_registry.specs.declared.kinds.Shape.TheVariants as shape
+use Rattle.reg_registry.specs.Words.{is_name}
 use Rattle.reg_values.specs.Literal.{literal_of}
 use Rattle.reg_reader.specs.Views.{Element}
 use Rattle.reg_forms.specs.declared.enum_attributes.Role.{Role}
@@ -13,12 +17,9 @@ use Rattle.reg_forms.specs.declared.forms.Declaration.{Declaration}
 use Rattle.reg_forms.specs.declared.forms.EnumForm.{EnumForm}
 use Rattle.reg_forms.specs.declared.forms.Given.{Given}
 use Rattle.reg_forms.specs.declared.forms.Given.TheVariants as given
-use Rattle.reg_forms.specs.declared.forms.Kind.TheVariants as kind
 use Rattle.reg_forms.specs.declared.forms.RowCode.TheVariants.{UnknownName}
-use Rattle.reg_forms.specs.declared.forms.Shape.{Shape}
-use Rattle.reg_forms.specs.declared.forms.Shape.TheVariants as shape
 use Rattle.reg_forms.specs.declared.forms.Sort.TheVariants as sort
-use Rattle.reg_forms.specs.Attributes.{children, counts, has, has_value, is_bad_number, is_name, name_of, value_of, value_or_empty, word_if}
+use Rattle.reg_forms.specs.Attributes.{children, counts, has, has_value, is_bad_number, name_of, value_of, value_or_empty, word_if}
 use Rattle.reg_forms.specs.Items.{Item, bad_at, unless_bad, wrong_at}
 use Rattle.reg_forms.specs.Parts.{is_among, mention_in}
 

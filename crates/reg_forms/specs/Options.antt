@@ -1,7 +1,7 @@
 -- Features and extensions, with their blocks (registry manual, the tags `feature`, `extension`, `require` and `remove`).
-use Rattle.std.specs.Prelude.{ℕ, Bool, true, false, not, ◌&&◌, ◌||◌, ◌==◌, ◌+◌, List, [], ◌∷◌, ◌++◌, drop, length, Option, Some, None, is_none, is_some, option_map, codes, if◌then◌else◌}
+use Rattle.std.specs.Prelude.{ℕ, Bool, true, false, not, ◌&&◌, ◌||◌, ◌==◌, ◌+◌, List, [], ◌∷◌, ◌++◌, drop, length, Option, Some, None, is_none, option_map, codes, if◌then◌else◌}
 use Rattle.std.specs.List.{flat_map, list_any}
-use Rattle.std.specs.Option.{option_flatten, option_map_or, option_to_list}
+use Rattle.std.specs.Option.{option_flatten, option_map_or}
 use Rattle.vkb_bytes.specs.Numbers.{short_numeral_of}
 use Rattle.reg_reader.specs.Views.{Element, elements_in}
 use Rattle.reg_forms.specs.declared.forms.RowCode.TheVariants.{ApiType}

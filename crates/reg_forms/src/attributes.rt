@@ -3,10 +3,11 @@ ghost use Rattle.std.specs.Prelude.{◌≡◌, ◌∷◌, [], IfOk};
 ghost use Rattle.std.specs.List.{list_any};
 ghost use Rattle.std.specs.Option.{option_map_or};
 ghost use Rattle.std.specs.Str.{bytes_eq};
-ghost use Rattle.reg_forms.specs.Attributes.{child, count_in, counts, first_part, has, has_value, is_name, is_named, lists, name_in, name_of, parts_of, value_or_empty};
+ghost use Rattle.reg_forms.specs.Attributes.{child, count_in, counts, first_part, has, has_value, is_named, lists, name_in, name_of, parts_of, value_or_empty};
 ghost use Rattle.reg_forms.specs.Parts.{text_inside};
 
 use reg_reader::Element;
+use reg_registry::is_name;
 use std::alloc::Global;
 use vkb_bytes::{Bytes, Memory};
 
@@ -120,18 +121,6 @@ pub(crate) fn name_in(text: Option<Bytes>) -> Option<Bytes>
     } else {
         None
     }
-}
-
-/// Whether a text is a name: bytes from 33 to 126, at least one.
-pub(crate) fn is_name(text: &[u8]) -> bool
-    ensures { result ≡ is_name text.now }
-{
-    for byte in text {
-        if *byte < 33 || *byte > 126 {
-            return false;
-        }
-    }
-    !text.is_empty()
 }
 
 /// The part of a text before the first comma.

@@ -7,10 +7,11 @@ ghost use Rattle.reg_forms.specs.Items.{Item, bad_at};
 
 use crate::attributes::{child, counts, has, name_in, name_of};
 use crate::draft::Draft;
-use crate::forms::{Fault, Kind, Mention, RowCode};
+use crate::forms::{Fault, Mention, RowCode};
 use crate::parts::{name_inside, proto_in, read_parts};
 use crate::rows::{alias_row, command_alias_row, plain_command_row, plain_mentions, plain_row};
 use reg_reader::Element;
+use reg_registry::Kind;
 use std::alloc::Global;
 use vkb_bytes::{Bytes, Memory};
 

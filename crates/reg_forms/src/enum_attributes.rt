@@ -8,9 +8,9 @@ ghost use Rattle.reg_forms.specs.Attributes.{has, has_value, is_bad_number, name
 ghost use Rattle.reg_forms.specs.EnumAttributes.{HoldsAttributes};
 ghost use Rattle.reg_forms.specs.Enums.{enum_words, is_bad_offset, is_bad_value, is_enumerant, takes_bits, takes_offsets, wants_value, ways_of};
 
-use crate::attributes::is_name;
 use crate::words::put_word_if;
 use reg_reader::Element;
+use reg_registry::is_name;
 use reg_values::{ValueFault, literal_value};
 use std::alloc::Global;
 use vkb_bytes::{Bytes, Memory, short_number};

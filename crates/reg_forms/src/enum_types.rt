@@ -8,8 +8,8 @@ ghost use Rattle.reg_forms.specs.EnumTypes.{AreNamesOf, rows_in, rows_of};
 
 use crate::attributes::{counts, has};
 use crate::declarations::{kind_of, type_name};
-use crate::forms::Kind;
 use reg_reader::Element;
+use reg_registry::Kind;
 use std::alloc::Global;
 use vkb_bytes::Memory;
 use vkb_formula::Names;

@@ -1,35 +1,6 @@
 //! What the elements of a registry come to.
+use reg_registry::{Kind, Shape};
 use vkb_bytes::{Bytes, Listed};
-
-/// What a declared name is: a type, by the attribute `category` of the registry manual, a constant, or a command.
-#[derive(Clone, Copy, Debug, PartialEq, Eq)]
-pub enum Kind {
-    /// A type without a category, which the registry doesn't define.
-    External,
-    Include,
-    Define,
-    Base,
-    Bitmask,
-    Handle,
-    EnumType,
-    FuncPointer,
-    Struct,
-    Union,
-    Constant,
-    Command,
-}
-
-/// What the values of an enum type are. All other kinds are `Plain`.
-#[derive(Clone, Copy, Debug, PartialEq, Eq)]
-pub enum Shape {
-    Plain,
-    /// Numbers of 32 bits with a sign.
-    List,
-    /// Flags of 32 bits.
-    Mask32,
-    /// Flags of 64 bits.
-    Mask64,
-}
 
 /// What a name that is mentioned has to be.
 #[derive(Clone, Copy, Debug, PartialEq, Eq)]

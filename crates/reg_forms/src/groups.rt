@@ -7,13 +7,14 @@ ghost use Rattle.reg_forms.specs.Enums.{grouped_items, is_lost, enums_items, gro
 ghost use Rattle.reg_forms.specs.Forms.{with_items};
 ghost use Rattle.reg_forms.specs.Parts.{is_among};
 
-use crate::attributes::{has_value, is_name, is_named};
+use crate::attributes::{has_value, is_named};
 use crate::draft::Draft;
 use crate::enum_attributes::Role;
 use crate::enums::read_enum;
-use crate::forms::{GroupForm, RowCode, Shape};
+use crate::forms::{GroupForm, RowCode};
 use crate::words::{put_word_if, put_wrong};
 use reg_reader::Element;
+use reg_registry::{Shape, is_name};
 use std::alloc::Global;
 use vkb_bytes::{Bytes, Memory};
 use vkb_formula::Names;

@@ -44,8 +44,8 @@ use crate::enum_types::enum_types;
 use crate::reading::read_children;
 use crate::words::put_wrong;
 pub use forms::{
-    BlockForm, Declaration, DependsText, EntryForm, EnumForm, Fault, Forms, Given, GroupForm, Kind,
-    MemberForm, Mention, OptionForm, RowCode, Shape, Sort,
+    BlockForm, Declaration, DependsText, EntryForm, EnumForm, Fault, Forms, Given, GroupForm,
+    MemberForm, Mention, OptionForm, RowCode, Sort,
 };
 use reg_reader::Element;
 use std::alloc::Global;

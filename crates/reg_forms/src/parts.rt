@@ -13,9 +13,10 @@ ghost use Rattle.reg_forms.specs.declared.forms.Sort.TheVariants as sort;
 
 use crate::attributes::{child, counts, first_part, has_value, name_in, stars_in, value_or_empty};
 use crate::draft::Draft;
-use crate::forms::{Fault, Kind, MemberForm, Mention, RowCode, Sort};
+use crate::forms::{Fault, MemberForm, Mention, RowCode, Sort};
 use crate::repeats::put_repeated;
 use reg_reader::Element;
+use reg_registry::Kind;
 use std::alloc::Global;
 use vkb_bytes::{Bytes, Memory, collapse};
 

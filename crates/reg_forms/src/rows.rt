@@ -2,16 +2,17 @@
 ghost use Rattle.std.specs.Prelude.{◌≡◌, ◌++◌, [], ℕ, List, Some, None, codes, is_some, map, IfOk};
 ghost use Rattle.std.specs.Option.{option_map_or};
 ghost use Rattle.vkb_bytes.specs.Trimming.{trim};
-ghost use Rattle.reg_forms.specs.declared.forms.Kind.TheVariants as kind;
+ghost use Rattle.reg_registry.specs.declared.kinds.Kind.TheVariants as kind;
 ghost use Rattle.reg_forms.specs.declared.forms.Sort.TheVariants as sort;
 ghost use Rattle.reg_forms.specs.Attributes.{children, parts_of, text_of, value_of};
 ghost use Rattle.reg_forms.specs.Declarations.{bits_of, command_row, type_row};
 ghost use Rattle.reg_forms.specs.Parts.{inner_mentions, member_of, mention_in, mention_of, proto_in, result_of, sound_members};
 
 use crate::attributes::{has_value, parts};
-use crate::forms::{Declaration, Kind, Mention, Sort};
+use crate::forms::{Declaration, Mention, Sort};
 use crate::parts::{Parts, mention_in, mention_of};
 use reg_reader::Element;
+use reg_registry::Kind;
 use std::alloc::Global;
 use vkb_bytes::{Bytes, Listed, Memory, trim};
 

@@ -2,11 +2,11 @@
 use Rattle.std.proofs.Common.{◌≡◌, ℕ, Bool, true, false, ◌||◌, List, [], ◌∷◌, Option, None, Some, cond, filter, length, get_or, ◌≤◌, arith, refl, subst, sym, ap, ◌∙◌}
 use Rattle.std.specs.List.{list_any}
 use Rattle.std.specs.Option.{MatchOption}
-use Rattle.std.specs.Prelude.{is_some, Result, Err}
+use Rattle.std.specs.Prelude.{is_some}
 use Rattle.std.proofs.lemmas.Bool.{true≢false}
 use Rattle.std.proofs.lemmas.List.Elements.{All-weaker}
+use Rattle.reg_registry.specs.Words.{is_name}
 use Rattle.reg_reader.specs.Views.{Element}
-use Rattle.reg_forms.specs.Attributes.{is_name}
 use Rattle.reg_forms.specs.Sizes.{AreSmall, IsSmallDeclaration, IsSmallMember}
 use Rattle.reg_forms.specs.declared.forms.Declaration.{Declaration}
 use Rattle.reg_forms.specs.declared.forms.DependsText.{DependsText}
@@ -15,12 +15,11 @@ use Rattle.reg_forms.specs.declared.forms.MemberForm.{MemberForm}
 use Rattle.reg_forms.specs.declared.forms.Fault.{Fault}
 use Rattle.reg_forms.specs.declared.forms.Forms.{Forms}
 use Rattle.reg_forms.specs.declared.forms.OptionForm.{OptionForm}
-use Rattle.reg_rows.specs.Answer.{AreReadOnce, AreReadings, IsAccepted, IsAnswer}
+use Rattle.reg_rows.specs.Answer.{AreReadOnce, AreReadings, IsAccepted}
 use Rattle.reg_rows.specs.Bits.{Readings}
 use Rattle.reg_rows.specs.Faults.{IsFirst, faults_of}
 use Rattle.reg_rows.specs.Found.{AreWords}
 use Rattle.reg_rows.specs.Tables.{features_in}
-use Rattle.reg_rows.specs.declared.fault.RowFault.TheVariants.{Bad, NoFeature}
 
 -- the first fault, if there is one
 abbrev pub IsFirstOf : Forms → Option Fault → Type 0
@@ -121,6 +120,7 @@ small-more n most f le small = record {
       (λ e short. (short.0, omega (arith, le, short.1))) f.enumerants small.each_enumerant;
   options = omega (arith, le, small.options);
   each_option = small.each_option;
+  numbers_differ = small.numbers_differ;
   blocks = omega (arith, le, small.blocks);
   each_block = small.each_block;
   entries = omega (arith, le, small.entries);

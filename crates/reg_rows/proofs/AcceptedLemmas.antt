@@ -3,19 +3,20 @@ use Rattle.std.proofs.Common.{◌≡◌, ◌<◌, ◌≤◌, ℕ, List, All, len
 use Rattle.std.proofs.lemmas.List.{length-map}
 use Rattle.std.proofs.lemmas.List.Elements.{All-map}
 use Rattle.vkb_formula.specs.Names.{most_names}
+use Rattle.reg_registry.specs.Naming.{AreSound, IsOnCircle, IsSoundRow, most_bytes}
 use Rattle.reg_forms.specs.Sizes.{AreSmall}
 use Rattle.reg_forms.specs.declared.forms.Forms.{Forms}
 use Rattle.reg_rows.specs.Answer.{AreReadOnce, IsAccepted}
 use Rattle.reg_rows.specs.Bits.{Readings, bits_of}
 use Rattle.reg_rows.specs.Built.{AreOptions}
 use Rattle.reg_rows.specs.Found.{atom_of}
-use Rattle.reg_rows.specs.Naming.{AreSound, IsOnCircle, IsSoundRow, most_bytes}
 use Rattle.reg_rows.specs.Rows.{declared_in, names_in, option_names, row_of, rows_of}
 use Rattle.reg_rows.specs.declared.bits.Bit.{Bit}
 use Rattle.reg_rows.proofs.ApartLemmas.{apart-different, firsts-apart}
+use Rattle.reg_rows.proofs.NumberLemmas.{numbers-differ}
 use Rattle.reg_rows.proofs.SoundNameLemmas.{names-few, options-apart, options-few, options-named}
 use Rattle.reg_rows.proofs.SoundOptionLemmas.{all-blocks-sound, blocks-count, options-sound, rows-count}
-use Rattle.reg_rows.proofs.SoundRowLemmas.{names-named, names-there, rows-sound}
+use Rattle.reg_rows.proofs.SoundRowLemmas.{names-named, names-short, names-there, rows-sound}
 
 -- no name is past the limit
 pub few-names : (f : Forms) (readings : Readings) → IsAccepted f readings → length (names_in f) ≤ most_names
@@ -47,10 +48,12 @@ are-sound f readings small accepted no-circle = record {
   options_count = rows-count f readings;
   names_named = names-named f small;
   options_named = options-named f readings accepted small;
+  names_short = names-short f small;
   names_few = names-few f readings accepted;
   options_few = options-few f readings accepted small;
   names_differ = apart-different (names_in f) (firsts-apart (λ d. d.name) f.declarations);
   options_differ = apart-different (option_names f readings) (options-apart f readings accepted small);
+  numbers_differ = numbers-differ f readings small.numbers_differ;
   blocks_few = omega (arith, blocks-count f readings, small.blocks);
   each_row = subst (λ count. All (IsSoundRow (length (names_in f)) count) (map (row_of f) (declared_in f))) (sym (blocks-count f readings)) (rows-sound f small);
   each_option = options-sound f readings;

@@ -7,11 +7,11 @@ use Rattle.std.proofs.lemmas.List.{drop_more, get_or-replicate, get_or-set_other
 use Rattle.std.proofs.lemmas.List.Elements.{All-get_or, filter-append, filter_map-append}
 use Rattle.vkb_formula.specs.Names.{place_of}
 use Rattle.vkb_formula.specs.declared.name_table.NameId.{NameId}
+use Rattle.reg_registry.specs.Rows.{id_at}
 use Rattle.reg_forms.specs.Sizes.{NeverFall}
 use Rattle.reg_forms.specs.declared.forms.EntryForm.{EntryForm}
 use Rattle.reg_rows.specs.BuiltParts.{is_mark}
 use Rattle.reg_rows.specs.Lists.{each_number}
-use Rattle.reg_rows.specs.Rows.{id_at}
 use Rattle.reg_rows.proofs.PlaceLemmas.{place_of-within}
 
 each_by : (same any : Bool) (m n : ℕ) (more : List ℕ) → (n == m) ≡ same → m ∷ filter (λ other. not (other == m)) (cond any more (more ++ n ∷ [])) ≡ cond (same || any) (m ∷ filter (λ other. not (other == m)) more) ((m ∷ filter (λ other. not (other == m)) more) ++ n ∷ [])

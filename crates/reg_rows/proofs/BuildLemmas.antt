@@ -6,13 +6,14 @@ use Rattle.std.proofs.lemmas.List.Elements.{All-cons}
 use Rattle.std.proofs.lemmas.Option.{slice_get_past}
 use Rattle.std.proofs.lemmas.Bool.{cases_lt}
 use Rattle.vkb_formula.specs.Names.{most_names}
+use Rattle.reg_registry.specs.Naming.{IsCircle, IsNamingCycle, IsOnCircle, LeadBack, Names}
+use Rattle.reg_registry.specs.Rows.{id_at}
+use Rattle.reg_registry.specs.declared.registry.Block.{Block}
+use Rattle.reg_registry.specs.declared.registry.OptionRow.{OptionRow}
+use Rattle.reg_registry.specs.declared.registry.Row.{Row}
 use Rattle.reg_forms.specs.declared.forms.Forms.{Forms}
 use Rattle.reg_rows.specs.Bits.{Readings}
-use Rattle.reg_rows.specs.Naming.{IsCircle, IsNamingCycle, IsOnCircle, Leads, LeadBack, Names, NoneTwice}
-use Rattle.reg_rows.specs.Rows.{Rows, id_at, block_rows, declared_in, names_in, option_names, option_rows_of, row_of, rows_of}
-use Rattle.reg_rows.specs.declared.registry.Block.{Block}
-use Rattle.reg_rows.specs.declared.registry.OptionRow.{OptionRow}
-use Rattle.reg_rows.specs.declared.registry.Row.{Row}
+use Rattle.reg_rows.specs.Rows.{block_rows, declared_in, names_in, option_names, option_rows_of, row_of, rows_of}
 
 -- parts that are those of the rows are the rows
 pub parts-are : (f : Forms) (readings : Readings) (names : List (List ℕ)) (rows : List Row) (options : List (List ℕ)) (asked : List OptionRow)

@@ -13,6 +13,8 @@ use Rattle.std.proofs.lemmas.List.Folds.{list_any-append, list_any_more}
 use Rattle.std.proofs.lemmas.Option.{slice_get-get_or, slice_get-map, slice_get_within}
 use Rattle.vkb_formula.specs.Names.{AreDifferent, place_of}
 use Rattle.vkb_formula.specs.declared.name_table.NameId.{NameId}
+use Rattle.reg_registry.specs.Rows.{id_at}
+use Rattle.reg_registry.specs.declared.registry.Enumerant.{Enumerant}
 use Rattle.reg_forms.specs.Declarations.{is_enum_row}
 use Rattle.reg_forms.specs.Sizes.{NeverFall}
 use Rattle.reg_forms.specs.declared.forms.Declaration.{Declaration}
@@ -24,9 +26,8 @@ use Rattle.reg_forms.specs.declared.forms.Sort.TheVariants as sort
 use Rattle.reg_rows.specs.Built.{IsFirstRow}
 use Rattle.reg_rows.specs.Listing.{AreByType, AreListed, AreLists, AreMarked, enum_place, is_end, places_besides, value_place, values_among}
 use Rattle.reg_rows.specs.Lists.{each_number, firsts, is_among}
-use Rattle.reg_rows.specs.Rows.{blocks_with, declared_in, enumerant_row, id_at, lists_value, names_in}
+use Rattle.reg_rows.specs.Rows.{blocks_with, declared_in, enumerant_row, lists_value, names_in}
 use Rattle.reg_rows.specs.Tables.{is_sort}
-use Rattle.reg_rows.specs.declared.registry.Enumerant.{Enumerant}
 use Rattle.reg_rows.proofs.FirstRowsLemmas.{different-placed, firsts-find, firsts-push, place-is}
 use Rattle.reg_rows.proofs.PlaceLemmas.{place_of-within, position-names, slice_get-seam}
 

@@ -1,14 +1,17 @@
 -- The order of faults is total, and the first of some faults stays first or gives way.
-use Rattle.std.proofs.Common.{◌≡◌, ℕ, Bool, true, false, cond, List, [], ◌∷◌, ◌++◌, Option, Some, None, Ordering, Less, Equal, Greater, refl, sym, ap, subst, ◌∙◌}
+use Rattle.std.proofs.Common.{◌≡◌, ℕ, Bool, true, false, cond, List, [], ◌∷◌, ◌++◌, get_or, Option, Some, None, Ordering, Less, Equal, Greater, refl, sym, ap, subst, ◌∙◌}
 use Rattle.std.specs.Prelude.{◌&&◌, ◌||◌, ◌==◌, nat_lt, MatchOption, if◌then◌else◌}
-use Rattle.std.specs.Cmp.{IsTotalOrder}
-use Rattle.std.specs.Cmp.Lexicographic.{lists_agrees, slice_cmp, slice_partial_cmp}
+use Rattle.std.specs.Cmp.{IsTotalOrder, unsigned_tied}
+use Rattle.std.specs.Cmp.Lexicographic.{bytes_decides, lists_agrees, slice_cmp, slice_partial_cmp}
 use Rattle.std.specs.Option.{option_map_or}
-use Rattle.std.specs.Ordering.{is_lt, is_some_and, nat_cmp, on, ordering_then, then_cmp}
-use Rattle.std.proofs.lemmas.Bool.{true≢false}
+use Rattle.std.specs.Ordering.{is_eq, is_lt, is_some_and, nat_cmp, on, ordering_reverse, ordering_then, then_cmp}
+use Rattle.std.proofs.lemmas.Bool.{eqb-true, true≢false}
 use Rattle.std.proofs.lemmas.Cmp.{nat_cmp_total, nat_list_cmp_total, on_total, then_total, tied_itself}
+use Rattle.std.proofs.lemmas.Map.Text.{is_eq-slice_cmp}
 use Rattle.std.proofs.lemmas.List.Elements.{All-nil, All-push, All-weaker, Contains-append_left, Contains-push}
 use Rattle.reg_forms.specs.declared.forms.Fault.{Fault}
+use Rattle.reg_forms.specs.declared.forms.RowCode.{RowCode}
+use Rattle.reg_forms.specs.declared.forms.RowCode.TheVariants.{BadAttribute, ApiType, BadExpression, DuplicateName, UnknownName, ValueRange, ValueClash, AliasCircle, NameLimit}
 use Rattle.reg_rows.specs.Faults.{IsFirst, is_less, rank, stands_before}
 
 abbrev fault_cmp : Fault → Fault → Ordering
@@ -85,3 +88,47 @@ by-word a b e f less h =
 
 pub byte_words : (word other : List ℕ) → is_some_and is_lt (slice_partial_cmp (λ x y. Some (nat_cmp x y)) word other) ≡ is_less word other
 byte_words word other = ap (is_some_and is_lt) (lists_agrees (λ x y. refl) word other)
+
+neither : (o p : Ordering) → o ≡ ordering_reverse p → is_lt o ≡ false → is_lt p ≡ false → o ≡ Equal
+neither Less p e h k = absurd (true≢false h)
+neither Equal p e h k = refl
+neither Greater Less e h k = absurd (true≢false k)
+neither Greater Equal e h k = absurd (cc)
+neither Greater Greater e h k = absurd (cc)
+
+both-tied : (o p : Ordering) → ordering_then o p ≡ Equal → (o ≡ Equal) × (p ≡ Equal)
+both-tied Less p e = absurd (cc)
+both-tied Equal p e = (refl, e)
+both-tied Greater p e = absurd (cc)
+
+same-number : (n m : ℕ) → nat_cmp n m ≡ Equal → n ≡ m
+same-number n m e = eqb-true n m (sym (unsigned_tied n m) ∙ ap is_eq e)
+
+same-word : (word other : List ℕ) → slice_cmp nat_cmp word other ≡ Equal → word ≡ other
+same-word word other e = (bytes_decides word other).0 (sym (is_eq-slice_cmp word other) ∙ ap is_eq e)
+
+-- the code of a rank
+abbrev code_of : ℕ → RowCode
+code_of n = get_or (BadAttribute ∷ ApiType ∷ BadExpression ∷ DuplicateName ∷ UnknownName ∷ ValueRange ∷ ValueClash ∷ AliasCircle ∷ []) n NameLimit
+
+ranked : (code : RowCode) → code_of (rank code) ≡ code
+ranked BadAttribute = refl
+ranked ApiType = refl
+ranked BadExpression = refl
+ranked DuplicateName = refl
+ranked UnknownName = refl
+ranked ValueRange = refl
+ranked ValueClash = refl
+ranked AliasCircle = refl
+ranked NameLimit = refl
+
+-- of two faults of which neither stands before the other there is one
+pub same-fault : (a b : Fault) → stands_before a b ≡ false → stands_before b a ≡ false → a ≡ b
+same-fault a b h k =
+    let tie : fault_cmp a b ≡ Equal = neither (fault_cmp a b) (fault_cmp b a) (fault_total.antisymm a b) (sym (stands-is a b) ∙ h) (sym (stands-is b a) ∙ k) in
+    let parts = both-tied (nat_cmp a.at b.at) (ordering_then (nat_cmp (rank a.code) (rank b.code)) (slice_cmp nat_cmp a.word b.word)) tie in
+    let rest = both-tied (nat_cmp (rank a.code) (rank b.code)) (slice_cmp nat_cmp a.word b.word) parts.1 in
+    let at : a.at ≡ b.at = same-number a.at b.at parts.0 in
+    let code : a.code ≡ b.code = sym (ranked a.code) ∙ ap code_of (same-number (rank a.code) (rank b.code) rest.0) ∙ ranked b.code in
+    let word : a.word ≡ b.word = same-word a.word b.word rest.1 in
+    λ i. record { code = code i; at = at i; word = word i }

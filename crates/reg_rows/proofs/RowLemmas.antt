@@ -7,6 +7,8 @@ use Rattle.std.proofs.lemmas.Bool.{eqb-true, not-false, not-true}
 use Rattle.std.proofs.lemmas.List.{get_or-set_other, length-map, length-set, map-append, map-set, take_more}
 use Rattle.std.proofs.lemmas.Option.{slice_get-map, slice_get_read, slice_get_within}
 use Rattle.vkb_formula.specs.Names.{place_of}
+use Rattle.reg_registry.specs.declared.registry.Enumerant.{Enumerant}
+use Rattle.reg_registry.specs.declared.registry.Row.{Row}
 use Rattle.reg_forms.specs.Declarations.{is_enum_row}
 use Rattle.reg_forms.specs.declared.forms.Declaration.{Declaration}
 use Rattle.reg_forms.specs.declared.forms.EnumForm.{EnumForm}
@@ -19,8 +21,6 @@ use Rattle.reg_rows.specs.Lists.{firsts, is_among}
 use Rattle.reg_rows.specs.Rows.{declared_in, row_of}
 use Rattle.reg_rows.specs.Tables.{declaration_of}
 use Rattle.reg_rows.specs.Values.{alias_in, last_of, number_of, value_of}
-use Rattle.reg_rows.specs.declared.registry.Enumerant.{Enumerant}
-use Rattle.reg_rows.specs.declared.registry.Row.{Row}
 use Rattle.reg_rows.proofs.FirstRowsLemmas.{first-at, firsts-push, firsts-there}
 use Rattle.reg_rows.proofs.ListingLemmas.{within_by}
 use Rattle.reg_rows.proofs.PlaceLemmas.{place_of-within, position-names}

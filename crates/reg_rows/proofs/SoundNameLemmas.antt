@@ -12,7 +12,8 @@ use Rattle.std.proofs.lemmas.Option.{slice_get-get_or}
 use Rattle.vkb_bytes.specs.Bytes.{is_digit, is_letter, is_word_byte}
 use Rattle.vkb_formula.specs.Expressions.{Atom as Part, Expression, Name, Group, Single, Both, Either, IsAtom, IsExpression, IsName, atom_names, names_of}
 use Rattle.vkb_formula.specs.Names.{most_names}
-use Rattle.reg_forms.specs.Attributes.{is_name}
+use Rattle.reg_registry.specs.Words.{is_name}
+use Rattle.reg_registry.specs.Naming.{most_bytes}
 use Rattle.reg_forms.specs.Options.{is_option_name}
 use Rattle.reg_forms.specs.Sizes.{AreSmall}
 use Rattle.reg_forms.specs.declared.forms.Declaration.{Declaration}
@@ -26,7 +27,6 @@ use Rattle.reg_rows.specs.Answer.{IsAccepted, IsReadAs}
 use Rattle.reg_rows.specs.Bits.{Atom, Readings, atoms_in, bits_of, is_bit, is_member_name, options_of}
 use Rattle.reg_rows.specs.Faults.{bad_text, declared_besides, declared_twice, duplicates_in, fault_if, grouped_twice, limits_in, of_two_types, offered_twice, past_limit, unknowns_in, wrong_values_in}
 use Rattle.reg_rows.specs.Lists.{firsts, is_among}
-use Rattle.reg_rows.specs.Naming.{most_bytes}
 use Rattle.reg_rows.specs.Rows.{declared_in, names_in, option_names}
 use Rattle.reg_rows.specs.Tables.{extensions_in, features_in}
 use Rattle.reg_rows.proofs.ApartLemmas.{Apart, AreNew, all-among, all-firsts, apart-append, apart-filter, apart-tests, firsts-all, firsts-apart, firsts-map, new-cons}

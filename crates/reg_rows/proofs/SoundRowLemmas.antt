@@ -1,12 +1,15 @@
 -- The rows of a registry are sound: what they name is there, and nothing in them is too long.
-use Rattle.std.proofs.Common.{◌≡◌, ◌≤◌, ◌<◌, ◌+◌, ℕ, Bool, true, false, not, cond, List, [], ◌∷◌, length, map, filter, slice_index_or, All, codes, arith}
+use Rattle.std.proofs.Common.{◌≡◌, ◌≤◌, ◌<◌, ◌+◌, ℕ, zero, suc, Bool, true, false, not, cond, List, [], ◌∷◌, length, map, filter, find, slice_index_or, All, Option, Some, None, codes, is_some, option_map, arith}
 use Rattle.std.specs.List.{filter_map}
+use Rattle.std.specs.Option.{IfSome, option_and_then, option_map_or}
 use Rattle.std.specs.Str.{bytes_eq}
 use Rattle.std.proofs.lemmas.Bool.{cond_both}
 use Rattle.std.proofs.lemmas.List.{length-append, length-map}
-use Rattle.std.proofs.lemmas.List.Elements.{All-filter, All-map, All-nil, All-weaker}
+use Rattle.std.proofs.lemmas.List.Elements.{All-filter, All-head, All-map, All-nil, All-tail, All-weaker}
 use Rattle.vkb_formula.specs.Names.{place_of}
-use Rattle.reg_forms.specs.Attributes.{is_name}
+use Rattle.reg_registry.specs.Words.{is_name}
+use Rattle.reg_registry.specs.Naming.{IsShort, IsSoundEnumerant, IsSoundMember, IsSoundRow, most_bytes}
+use Rattle.reg_registry.specs.Rows.{id_at, id_of}
 use Rattle.reg_forms.specs.Declarations.{is_enum_row}
 use Rattle.reg_forms.specs.Sizes.{AreSmall, IsSmallDeclaration, IsSmallMember}
 use Rattle.reg_forms.specs.declared.forms.Declaration.{Declaration}
@@ -14,12 +17,36 @@ use Rattle.reg_forms.specs.declared.forms.EnumForm.{EnumForm}
 use Rattle.reg_forms.specs.declared.forms.Forms.{Forms}
 use Rattle.reg_forms.specs.declared.forms.MemberForm.{MemberForm}
 use Rattle.reg_rows.specs.Lists.{each_number, firsts}
-use Rattle.reg_rows.specs.Naming.{IsShort, IsSoundEnumerant, IsSoundMember, IsSoundRow, most_bytes}
-use Rattle.reg_rows.specs.Rows.{blocks_with, declared_in, enumerant_row, id_at, id_of, lists_value, member_row, mentioned, named_of, names_in, row_of, values_of}
-use Rattle.reg_rows.specs.Tables.{is_mask64, shape_of}
+use Rattle.reg_rows.specs.Rows.{blocks_with, declared_in, enumerant_row, lists_value, member_row, mentioned, named_of, names_in, row_of, values_of}
+use Rattle.reg_rows.specs.Tables.{enumerant_of, is_mask64, shape_of}
+use Rattle.reg_rows.specs.Values.{alias_of, last_in, last_of, next_of, within}
 use Rattle.reg_rows.proofs.ApartLemmas.{all-firsts, length-firsts}
 use Rattle.reg_rows.proofs.ListLemmas.{all-filter_map, all-numbers, length-filter-le, length-filter_map, length-numbers}
+use Rattle.reg_rows.proofs.OnceLemmas.{ids-once}
 use Rattle.reg_rows.proofs.WithinLemmas.{IsThere, id-within, known-within, named-by, numbers-there, place-within}
+
+found-each : {X : Type 0} (P : X → Type 0) (test : X → Bool) (xs : List X) → All P xs → IfSome (find test xs) P
+found-each P test [] each = tt
+found-each P test (x ∷ xs) each =
+    cond_both (test x) (Some x) (find test xs) (λ found. IfSome found P) (λ passes. All-head P x xs each) (λ fails. found-each P test xs (All-tail P x xs each))
+
+-- the name has the form of one, and isn't too long
+abbrev pub IsShortName : EnumForm → Type 0
+IsShortName e = (is_name e.name ≡ true) × (length e.name ≤ most_bytes)
+
+within-short : (of : List ℕ) (o : Option EnumForm) → IfSome o IsShortName → IfSome (option_and_then (within of) o) IsShortName
+within-short of None short = tt
+within-short of (Some e) short = cond_both (bytes_eq of e.of) (Some e) None (λ kept. IfSome kept IsShortName) (λ same. short) (λ other. tt)
+
+end-named : (alias : Bool) (last : Option EnumForm) → IfSome last IsShortName → IfSome (cond alias (option_map (λ last. last.name) last) None) IsShort
+end-named true None short = tt
+end-named true (Some e) short = short.1
+end-named false last short = tt
+
+next-or : (again : EnumForm → Option EnumForm) (e : EnumForm) (next : Option EnumForm) → ((other : EnumForm) → IsShortName other → IfSome (again other) IsShortName)
+    → IsShortName e → IfSome next IsShortName → IfSome (option_map_or again next (Some e)) IsShortName
+next-or again e None each short others = short
+next-or again e (Some next) each short others = each next others
 
 module _ (f : Forms) where
   -- what a row names is there
@@ -52,6 +79,18 @@ module _ (f : Forms) where
   some-name k h = omega (arith, h, length-map (declared_in f) (λ d. d.name))
 
   module _ (small : AreSmall most_bytes f) where
+    named-short : (name : Option (List ℕ)) → IfSome (option_and_then (enumerant_of f) name) IsShortName
+    named-short None = tt
+    named-short (Some name) = found-each IsShortName (λ e. bytes_eq name e.name) f.enumerants small.each_enumerant
+
+    next-short : (e : EnumForm) → IfSome (next_of f e) IsShortName
+    next-short e = within-short e.of (option_and_then (enumerant_of f) (alias_of e)) (named-short (alias_of e))
+
+    -- the end of a chain of aliases
+    last-short : (n : ℕ) (e : EnumForm) → IsShortName e → IfSome (last_in n f e) IsShortName
+    last-short zero e short = tt
+    last-short (suc n) e short = next-or (last_in n f) e (next_of f e) (last-short n) short (next-short e)
+
     member-sound : 0 < length (names_in f) → (m : MemberForm) → IsSmallMember most_bytes m → IsSoundMember (length (names_in f)) (member_row (names_in f) m)
     member-sound some m h = record {
       base = known-within (names_in f) m.base some;
@@ -74,11 +113,12 @@ module _ (f : Forms) where
         let listed = filter (lists_value f adds name) f.entries in
         omega (arith, length-numbers (map (λ entry. entry.block) listed), length-map listed (λ entry. entry.block), length-filter-le (lists_value f adds name) f.entries, small.entries)
 
-    enumerant-sound : (e : EnumForm) → (is_name e.name ≡ true) × (length e.name ≤ most_bytes) → IsSoundEnumerant (length f.blocks) (enumerant_row f e)
+    enumerant-sound : (e : EnumForm) → IsShortName e → IsSoundEnumerant (length f.blocks) (enumerant_row f e)
     enumerant-sound e h = record {
       required = blocks-there true e.name;
       removed = blocks-there false e.name;
       name_short = h.1;
+      end_short = end-named (is_some (alias_of e)) (last_of f e) (last-short (length f.enumerants + 1) e h);
       required_short = blocks-short true e.name;
       removed_short = blocks-short false e.name;
     }
@@ -91,9 +131,9 @@ module _ (f : Forms) where
       values-sound =
           cond_both (is_enum_row d) (map (enumerant_row f) rows) [] (All (IsSoundEnumerant (length f.blocks)))
           (λ t. All-map (IsSoundEnumerant (length f.blocks)) (enumerant_row f) rows
-          (All-weaker (λ e. (is_name e.name ≡ true) × (length e.name ≤ most_bytes)) (λ e. IsSoundEnumerant (length f.blocks) (enumerant_row f e)) enumerant-sound rows
-          (All-filter (λ e. bytes_eq d.name e.of) (λ e. (is_name e.name ≡ true) × (length e.name ≤ most_bytes)) (firsts (λ e. e.name) f.enumerants)
-          (all-firsts (λ e. e.name) (λ e. (is_name e.name ≡ true) × (length e.name ≤ most_bytes)) [] f.enumerants small.each_enumerant))))
+          (All-weaker IsShortName (λ e. IsSoundEnumerant (length f.blocks) (enumerant_row f e)) enumerant-sound rows
+          (All-filter (λ e. bytes_eq d.name e.of) IsShortName (firsts (λ e. e.name) f.enumerants)
+          (all-firsts (λ e. e.name) IsShortName [] f.enumerants small.each_enumerant))))
           (λ t. All-nil (IsSoundEnumerant (length f.blocks)))
 
       values-short : IsShort (values_of f d)
@@ -118,6 +158,7 @@ module _ (f : Forms) where
         extends_short = omega (arith, length-filter_map (id_of (names_in f)) d.extends, h.extends);
         values_short = values-short;
         named_short = omega (arith, length-named d, h.mentions);
+        named_once = ids-once (filter_map (λ name. place_of name (names_in f)) (filter (λ name. not (bytes_eq d.name name)) (mentioned f d)));
       }
 
     small-declared : All (IsSmallDeclaration most_bytes) (declared_in f)
@@ -132,3 +173,8 @@ module _ (f : Forms) where
     names-named =
         All-map (λ name. is_name name ≡ true) (λ d. d.name) (declared_in f)
         (All-weaker (IsSmallDeclaration most_bytes) (λ d. is_name d.name ≡ true) (λ d h. h.named) (declared_in f) small-declared)
+
+    pub names-short : All IsShort (names_in f)
+    names-short =
+        All-map IsShort (λ d. d.name) (declared_in f)
+        (All-weaker (IsSmallDeclaration most_bytes) (λ d. IsShort d.name) (λ d h. h.name) (declared_in f) small-declared)

@@ -9,10 +9,11 @@ use Rattle.vkb_formula.specs.Names.{place_of}
 use Rattle.vkb_formula.specs.declared.formula.Formula.{Formula, Formula-F, fold-roll-Formula}
 use Rattle.vkb_formula.specs.declared.formula.Formula.TheVariants.{Always, Never, Var, All as Conjunction, Any as Disjunction, rolls-All, rolls-Always, rolls-Any, rolls-Never, rolls-Var}
 use Rattle.vkb_formula.specs.declared.name_table.NameId.{NameId}
+use Rattle.reg_registry.specs.Rows.{id_at, id_of}
 use Rattle.reg_forms.specs.declared.forms.DependsText.{DependsText}
 use Rattle.reg_rows.specs.Bits.{Readings}
 use Rattle.reg_rows.specs.Lists.{each_number}
-use Rattle.reg_rows.specs.Rows.{formula_at, formula_in, id_at, id_of, id_of_known}
+use Rattle.reg_rows.specs.Rows.{formula_at, formula_in, id_of_known}
 use Rattle.reg_rows.proofs.ListLemmas.{all-numbers}
 use Rattle.reg_rows.proofs.PlaceLemmas.{place_of-within}
 

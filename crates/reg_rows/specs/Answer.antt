@@ -1,11 +1,12 @@
 -- What is answered for a registry, by what its elements come to.
 use Rattle.std.specs.Prelude.{◌≡◌, ◌≢◌, ℕ, List, [], map, Option, Some, None, Result, Ok, Err, All, ⊤}
 use Rattle.vkb_formula.specs.Expressions.{Expression, IsNoExpression, Spells}
+use Rattle.reg_registry.specs.Naming.{IsNamingCycle, IsOnCircle}
+use Rattle.reg_registry.specs.Rows.{Rows}
 use Rattle.reg_forms.specs.declared.forms.Forms.{Forms}
 use Rattle.reg_rows.specs.Bits.{Readings}
 use Rattle.reg_rows.specs.Faults.{IsFirst, faults_of}
-use Rattle.reg_rows.specs.Naming.{IsNamingCycle}
-use Rattle.reg_rows.specs.Rows.{Rows, rows_of}
+use Rattle.reg_rows.specs.Rows.{rows_of}
 use Rattle.reg_rows.specs.Tables.{features_in}
 use Rattle.reg_rows.specs.declared.fault.RowFault.{RowFault}
 use Rattle.reg_rows.specs.declared.fault.RowFault.TheVariants.{Bad, NoFeature, NamingCycle, Memory}
@@ -33,7 +34,8 @@ pub record IsAccepted (f : Forms) (readings : Readings) : Type 0 where
 -- The first fault, or that no feature is there, or that names are a circle, or else the rows. Of several circles through the first name
 -- any may be told, and want of memory may be told in the place of all.
 abbrev pub IsAnswer : Forms → Result Rows RowFault → Type 0
-IsAnswer f (Ok rows) = (readings : Readings) × IsAccepted f readings × (rows ≡ rows_of f readings)
+IsAnswer f (Ok rows) =
+    (readings : Readings) × IsAccepted f readings × (rows ≡ rows_of f readings) × ((place : ℕ) → IsOnCircle rows.rows place → ⊥)
 IsAnswer f (Err (Bad code at word)) =
     (readings : Readings) × AreReadings f readings × IsFirst (faults_of f readings) (record { code = code; at = at; word = word })
 IsAnswer f (Err NoFeature) = (readings : Readings) × AreReadings f readings × (faults_of f readings ≡ []) × (features_in f ≡ [])

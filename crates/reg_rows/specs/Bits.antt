@@ -5,11 +5,11 @@ use Rattle.std.specs.List.{flat_map, list_any}
 use Rattle.std.specs.Option.{option_and_then, option_map_or}
 use Rattle.std.specs.Str.{bytes_eq}
 use Rattle.vkb_formula.specs.Expressions.{Expression, names_of}
+use Rattle.reg_registry.specs.declared.kinds.Kind.{Kind}
+use Rattle.reg_registry.specs.declared.kinds.Kind.TheVariants.{Struct}
 use Rattle.reg_forms.specs.declared.forms.Declaration.{Declaration}
 use Rattle.reg_forms.specs.declared.forms.DependsText.{DependsText}
 use Rattle.reg_forms.specs.declared.forms.Forms.{Forms}
-use Rattle.reg_forms.specs.declared.forms.Kind.{Kind}
-use Rattle.reg_forms.specs.declared.forms.Kind.TheVariants.{Struct}
 use Rattle.reg_rows.specs.Lists.{firsts}
 use Rattle.reg_rows.specs.Tables.{declaration_of, extensions_in, features_in}
 

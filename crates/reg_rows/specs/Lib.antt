@@ -7,13 +7,11 @@ pub mod Chains
 pub mod Counts
 pub mod Faults
 pub mod Found
+pub mod Laws
 pub mod Listing
 pub mod Lists
-pub mod Naming
 pub mod Places
 pub mod Rows
 pub mod TableContents
 pub mod Tables
 pub mod Values
-pub mod Walks
-pub mod Ways

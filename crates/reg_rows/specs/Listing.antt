@@ -5,18 +5,19 @@ use Rattle.std.specs.Option.{option_and_then, option_map_or}
 use Rattle.std.specs.Str.{bytes_eq}
 use Rattle.vkb_formula.specs.Names.{place_of}
 use Rattle.vkb_formula.specs.declared.name_table.NameId.{NameId}
+use Rattle.reg_registry.specs.declared.kinds.Shape.{Shape}
+use Rattle.reg_registry.specs.Rows.{id_at}
+use Rattle.reg_registry.specs.declared.registry.Enumerant.{Enumerant}
 use Rattle.reg_forms.specs.Declarations.{is_enum_row}
 use Rattle.reg_forms.specs.declared.forms.Declaration.{Declaration}
 use Rattle.reg_forms.specs.declared.forms.EntryForm.{EntryForm}
 use Rattle.reg_forms.specs.declared.forms.EnumForm.{EnumForm}
 use Rattle.reg_forms.specs.declared.forms.Forms.{Forms}
-use Rattle.reg_forms.specs.declared.forms.Shape.{Shape}
 use Rattle.reg_forms.specs.declared.forms.Sort.TheVariants as sort
 use Rattle.reg_rows.specs.Built.{IsFirstRow}
 use Rattle.reg_rows.specs.Lists.{each_number, firsts}
-use Rattle.reg_rows.specs.Rows.{declared_in, enumerant_row, id_at, lists_value}
+use Rattle.reg_rows.specs.Rows.{declared_in, enumerant_row, lists_value}
 use Rattle.reg_rows.specs.Tables.{declaration_of, is_mask64, is_sort}
-use Rattle.reg_rows.specs.declared.registry.Enumerant.{Enumerant}
 
 -- a row of each enumerant, among these rows, stands in the block of its type
 abbrev pub AreAlways : Forms → List EnumForm → List Bool → Type 0

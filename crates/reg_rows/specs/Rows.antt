@@ -8,6 +8,12 @@ use Rattle.vkb_formula.specs.Names.{place_of}
 use Rattle.vkb_formula.specs.declared.formula.Formula.{Formula}
 use Rattle.vkb_formula.specs.declared.formula.Formula.TheVariants as formula
 use Rattle.vkb_formula.specs.declared.name_table.NameId.{NameId}
+use Rattle.reg_registry.specs.declared.registry.Block.{Block}
+use Rattle.reg_registry.specs.declared.registry.Enumerant.{Enumerant}
+use Rattle.reg_registry.specs.declared.registry.Member.{Member}
+use Rattle.reg_registry.specs.declared.registry.OptionRow.{OptionRow}
+use Rattle.reg_registry.specs.declared.registry.Row.{Row}
+use Rattle.reg_registry.specs.Rows.{Rows, id_at, id_of}
 use Rattle.reg_forms.specs.Declarations.{is_enum_row}
 use Rattle.reg_forms.specs.declared.forms.BlockForm.{BlockForm}
 use Rattle.reg_forms.specs.declared.forms.Declaration.{Declaration}
@@ -21,27 +27,6 @@ use Rattle.reg_rows.specs.Bits.{Atom, Readings, bits_of, member_in, options_of, 
 use Rattle.reg_rows.specs.Lists.{each_number, firsts}
 use Rattle.reg_rows.specs.Tables.{extensions_in, features_in, is_mask64, is_sort, shape_of}
 use Rattle.reg_rows.specs.Values.{alias_of, last_of, value_of}
-use Rattle.reg_rows.specs.declared.registry.Block.{Block}
-use Rattle.reg_rows.specs.declared.registry.Enumerant.{Enumerant}
-use Rattle.reg_rows.specs.declared.registry.Member.{Member}
-use Rattle.reg_rows.specs.declared.registry.OptionRow.{OptionRow}
-use Rattle.reg_rows.specs.declared.registry.Row.{Row}
-
--- the declared names with what is declared, the options with their rules, the blocks, and the tags of authors
-pub record Rows : Type 0 where
-  pub names : List (List ℕ)
-  pub rows : List Row
-  pub options : List (List ℕ)
-  pub option_rows : List OptionRow
-  pub blocks : List Block
-  pub tags : List (List ℕ)
-
-abbrev pub id_at : ℕ → NameId
-id_at place = record { 0 = place }
-
--- the declared name of these bytes, if there is one
-abbrev pub id_of : List (List ℕ) → List ℕ → Option NameId
-id_of names name = option_map id_at (place_of name names)
 
 -- The same where there is one: in a registry without faults there is.
 abbrev pub id_of_known : List (List ℕ) → List ℕ → NameId
@@ -174,11 +159,3 @@ rows_of f readings = record {
   blocks = block_rows f readings 0 f.blocks;
   tags = f.tags;
 }
-
--- an option that asks for nothing
-abbrev pub free_option : OptionRow
-free_option = record { version = None; depends = formula.Always; bit = None }
-
--- a registry that declares nothing, with free options
-abbrev pub bare_rows : List (List ℕ) → Rows
-bare_rows options = record { names = []; rows = []; options = options; option_rows = map (λ name. free_option) options; blocks = []; tags = [] }

@@ -3,16 +3,16 @@ use Rattle.std.specs.Prelude.{ℕ, Bool, true, false, ◌&&◌, ◌||◌, List, 
 use Rattle.std.specs.List.{find, list_any}
 use Rattle.std.specs.Option.{option_map_or}
 use Rattle.std.specs.Str.{bytes_eq}
+use Rattle.reg_registry.specs.declared.kinds.Kind.{Kind}
+use Rattle.reg_registry.specs.declared.kinds.Kind.TheVariants as kind
+use Rattle.reg_registry.specs.declared.kinds.Shape.{Shape}
+use Rattle.reg_registry.specs.declared.kinds.Shape.TheVariants as shape
 use Rattle.reg_forms.specs.Declarations.{is_enum_kind, is_enum_row}
 use Rattle.reg_forms.specs.declared.forms.Declaration.{Declaration}
 use Rattle.reg_forms.specs.declared.forms.EnumForm.{EnumForm}
 use Rattle.reg_forms.specs.declared.forms.Forms.{Forms}
 use Rattle.reg_forms.specs.declared.forms.GroupForm.{GroupForm}
-use Rattle.reg_forms.specs.declared.forms.Kind.{Kind}
-use Rattle.reg_forms.specs.declared.forms.Kind.TheVariants as kind
 use Rattle.reg_forms.specs.declared.forms.OptionForm.{OptionForm}
-use Rattle.reg_forms.specs.declared.forms.Shape.{Shape}
-use Rattle.reg_forms.specs.declared.forms.Shape.TheVariants as shape
 use Rattle.reg_forms.specs.declared.forms.Sort.{Sort}
 use Rattle.reg_forms.specs.declared.forms.Sort.TheVariants as sort
 

@@ -2,6 +2,8 @@
 use Rattle.std.specs.Prelude.{ℕ, ◌+◌, ◌^◌, ◌-◌, ℤ, pos, neg_ℤ, int_lt, zero, suc, List, length, Option, Some, None, Result, Ok, Err, option_map, if◌then◌else◌}
 use Rattle.std.specs.Option.{option_and_then, option_map_or}
 use Rattle.std.specs.Str.{bytes_eq}
+use Rattle.reg_registry.specs.declared.kinds.Shape.{Shape}
+use Rattle.reg_registry.specs.declared.kinds.Shape.TheVariants as shape
 use Rattle.reg_values.specs.Literal.{literal_value}
 use Rattle.reg_values.specs.Values.{bit_value, offset_value}
 use Rattle.reg_values.specs.declared.ValueFault.{ValueFault}
@@ -9,8 +11,6 @@ use Rattle.reg_forms.specs.declared.forms.EnumForm.{EnumForm}
 use Rattle.reg_forms.specs.declared.forms.Forms.{Forms}
 use Rattle.reg_forms.specs.declared.forms.Given.{Given}
 use Rattle.reg_forms.specs.declared.forms.Given.TheVariants as given
-use Rattle.reg_forms.specs.declared.forms.Shape.{Shape}
-use Rattle.reg_forms.specs.declared.forms.Shape.TheVariants as shape
 use Rattle.reg_rows.specs.Tables.{enumerant_of, shape_named}
 
 -- how many bits a value has that is given by one

@@ -1,10 +1,10 @@
 //! The rows of a registry that has no faults, from its forms.
 ghost use Rattle.std.specs.Prelude.{◌≡◌, ◌<◌, All, IfOk, Some, length, map, slice_get};
+ghost use Rattle.reg_registry.specs.Naming.{most_bytes};
 ghost use Rattle.reg_forms.specs.Sizes.{AreSmall};
 ghost use Rattle.reg_rows.specs.Answer.{AreReadOnce, AreReadings, IsAccepted, IsAnswer};
 ghost use Rattle.reg_rows.specs.Bits.{Readings, bits_of};
 ghost use Rattle.reg_rows.specs.Found.{AreValues, atom_of};
-ghost use Rattle.reg_rows.specs.Naming.{most_bytes};
 
 mod bit_parts;
 mod blocks;
@@ -15,15 +15,14 @@ mod uses;
 mod values;
 
 use crate::bits::Bit;
-use crate::circles::circle;
 use crate::fault::RowFault;
-use crate::registry::Registry;
 use crate::tables::Tables;
 use crate::values::Values;
 use blocks::blocks;
 use declared::declared_rows;
 use names::{declared_names, option_names};
 use options::option_rows;
+use reg_registry::{Registry, first_circle};
 use std::alloc::Global;
 use vkb_bytes::{Bytes, Listed, Memory};
 use vkb_formula::{NameId, NameTable};
@@ -44,7 +43,7 @@ pub(crate) fn build(
 {
     let names = declared_names(alloc, tables)?;
     let rows = declared_rows(alloc, tables, values, &names)?;
-    if let Some(places) = circle(alloc, &rows)? {
+    if let Some(places) = first_circle(alloc, &rows)? {
         let names = names_at(alloc, &names, &places)?;
         return Err(RowFault::NamingCycle {
             names: Listed::from_vec(names),

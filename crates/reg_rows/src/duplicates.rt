@@ -6,7 +6,8 @@ ghost use Rattle.reg_rows.specs.Tables.{is_constant};
 
 use crate::faults::put_fault;
 use crate::tables::Tables;
-use reg_forms::{Declaration, EnumForm, Fault, GroupForm, Kind, OptionForm, RowCode};
+use reg_forms::{Declaration, EnumForm, Fault, GroupForm, OptionForm, RowCode};
+use reg_registry::Kind;
 use std::alloc::Global;
 use vkb_bytes::Memory;
 use vkb_formula::Names;

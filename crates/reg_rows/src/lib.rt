@@ -15,12 +15,13 @@
 //! ```
 //!
 //! What an element says by itself is read by `reg_forms`. Here tables of names are filled (`tables`), the faults are put together, one
-//! function for each rule (`duplicates`, `unknowns`, `values`, `bits`, `limits`), and where there is none, the rows are built (`building`) and
-//! looked at for circles (`circles`).
+//! function for each rule (`duplicates`, `unknowns`, `values`, `bits`, `limits`), and where there is none, the rows are built (`building`).
+//! The `Registry` that keeps them, and the search for names that are a circle, are those of `reg_registry`.
 #![tactic(auto)]
 
 ghost use Rattle.std.specs.Prelude.{◌≡◌, ◌≤◌, [], IfOk, is_some, length, map, MatchOption};
 ghost use Rattle.std.specs.List.{list_any};
+ghost use Rattle.reg_registry.specs.Naming.{most_bytes};
 ghost use Rattle.reg_reader.specs.Markup.{Spells};
 ghost use Rattle.reg_reader.specs.Shown.{IsElementOf};
 ghost use Rattle.reg_reader.specs.Views.{Element};
@@ -30,21 +31,18 @@ ghost use Rattle.reg_rows.specs.Answer.{AreReadings, IsAnswer};
 ghost use Rattle.reg_rows.specs.Bits.{Readings, bits_of};
 ghost use Rattle.reg_rows.specs.Faults.{IsFirst, faults_of};
 ghost use Rattle.reg_rows.specs.Found.{AreValues, AreWords, atom_of};
-ghost use Rattle.reg_rows.specs.Naming.{most_bytes};
 
-mod bare;
 mod bits;
 mod building;
 mod chains;
-mod circles;
 mod counted;
 mod duplicates;
 mod fault;
 mod faults;
+mod laws;
 mod limits;
 mod members;
 mod places;
-mod registry;
 mod tables;
 mod unknowns;
 mod values;
@@ -57,10 +55,11 @@ use crate::tables::Tables;
 use crate::unknowns::put_unknowns;
 use crate::values::{Values, put_wrong_values};
 pub use fault::RowFault;
+pub use laws::{answers_are_one, each_registry_is_answered, rows_are_within};
+pub use reg_forms::RowCode;
 use reg_forms::{Fault, Forms, OptionForm, read_forms};
-pub use reg_forms::{Kind, RowCode, Shape};
 use reg_reader::{Element, Node};
-pub use registry::{Block, Choice, Enumerant, Member, OptionRow, Registry, Row};
+use reg_registry::Registry;
 use std::alloc::Global;
 pub use vkb_bytes::Memory;
 use vkb_bytes::{Bytes, Listed};

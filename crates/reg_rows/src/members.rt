@@ -8,7 +8,8 @@ ghost use Rattle.reg_forms.specs.declared.forms.Declaration.{Declaration};
 
 use crate::chains::last_places;
 use crate::tables::Tables;
-use reg_forms::{Declaration, Forms, Kind, MemberForm};
+use reg_forms::{Declaration, Forms, MemberForm};
+use reg_registry::Kind;
 use std::alloc::Global;
 use vkb_bytes::Memory;
 use vkb_formula::Names;

@@ -7,7 +7,8 @@ ghost use Rattle.reg_rows.specs.TableContents.{AreOf, HasDeclared};
 ghost use Rattle.reg_rows.specs.Tables.{declaration_of, enumerant_of, group_of, is_known, is_sort, shape_named, shape_of, sort_of};
 
 use crate::places::Places;
-use reg_forms::{Declaration, EnumForm, Forms, GroupForm, Kind, Shape, Sort};
+use reg_forms::{Declaration, EnumForm, Forms, GroupForm, Sort};
+use reg_registry::{Kind, Shape};
 use std::alloc::Global;
 use std::marker::Model;
 use vkb_bytes::Memory;

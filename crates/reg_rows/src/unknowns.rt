@@ -8,7 +8,8 @@ ghost use Rattle.reg_rows.specs.Values.{within};
 
 use crate::faults::put_fault;
 use crate::tables::Tables;
-use reg_forms::{Declaration, EntryForm, EnumForm, Fault, Given, Mention, RowCode, Shape, Sort};
+use reg_forms::{Declaration, EntryForm, EnumForm, Fault, Given, Mention, RowCode, Sort};
+use reg_registry::Shape;
 use std::alloc::Global;
 use vkb_bytes::Memory;
 

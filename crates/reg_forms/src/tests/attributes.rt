@@ -1,4 +1,4 @@
-use crate::attributes::{counts, first_part, is_name, lists, parts};
+use crate::attributes::{counts, first_part, lists, parts};
 use reg_reader::{Element, read_markup};
 use std::alloc::Global;
 use std::test::Fail;
@@ -75,21 +75,4 @@ fn texts_are_cut_at_commas(rt: HostRuntime) -> Result<(), Fail> {
         assert_eq!(rt; found.len(), count);
     }
     Ok(())
-}
-
-#[test]
-fn names_are_of_some_bytes(rt: HostRuntime) {
-    let table: [(&[u8], bool); 8] = [
-        (b"VkA", true),
-        (b"!~", true),
-        (b"a:b", true),
-        (b"", false),
-        (b" a", false),
-        (b"a b", false),
-        (b"a\x7f", false),
-        (b"\xc3\xa4", false),
-    ];
-    for (text, named) in table {
-        assert_eq!(rt; is_name(text), named);
-    }
 }

@@ -1,6 +1,7 @@
-use crate::forms::{Forms, Given, Shape};
+use crate::forms::{Forms, Given};
 use crate::read_forms;
 use reg_reader::{Element, read_markup};
+use reg_registry::Shape;
 use std::alloc::Global;
 use std::test::Fail;
 

@@ -1,7 +1,8 @@
 use crate::draft::Draft;
-use crate::forms::{Fault, Kind, MemberForm, Mention, RowCode, Sort};
+use crate::forms::{Fault, MemberForm, Mention, RowCode, Sort};
 use crate::parts::read_parts;
 use reg_reader::{Element, read_markup};
+use reg_registry::Kind;
 use std::alloc::{AllocError, Global};
 use std::test::Fail;
 use vkb_bytes::decimal_text;

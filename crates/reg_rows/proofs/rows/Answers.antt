@@ -1,10 +1,10 @@
-use Rattle.std.proofs.Common.{◌≡◌, ◌∙◌, ap, sym, subst, arith}
+use Rattle.std.proofs.Common.{subst, arith}
+use Rattle.reg_registry.specs.Naming.{most_bytes}
 use Rattle.reg_reader.specs.Views.{Element}
 use Rattle.reg_reader.specs.Views.{element_size}
 use Rattle.reg_forms.specs.Forms.{forms_of}
 use Rattle.reg_forms.specs.declared.forms.Forms.{Forms}
 use Rattle.reg_rows.specs.Answer.{IsAnswer}
-use Rattle.reg_rows.specs.Naming.{most_bytes}
 use Rattle.reg_rows.proofs.AcceptLemmas.{same-root, small-more}
 use Rattle.reg_rows.proofs.rows.Goals as goal
 

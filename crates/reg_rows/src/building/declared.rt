@@ -2,19 +2,20 @@
 ghost use Rattle.std.specs.Prelude.{◌≡◌, ◌+◌, ◌<◌, ◌∷◌, ◌++◌, [], ℕ, List, All, IfOk, OnOk, length, map};
 ghost use Rattle.std.specs.List.{filter_map};
 ghost use Rattle.std.specs.Option.{option_and_then};
+ghost use Rattle.reg_registry.specs.Naming.{most_bytes};
+ghost use Rattle.reg_registry.specs.Rows.{id_at, id_of};
 ghost use Rattle.reg_forms.specs.Sizes.{AreSmall, IsSmallDeclaration, IsSmallMember};
 ghost use Rattle.reg_rows.specs.Found.{AreValues};
 ghost use Rattle.reg_rows.specs.Listing.{AreBefore, AreMarked, mentioned_by, places_besides};
 ghost use Rattle.reg_rows.specs.Lists.{each_number};
-ghost use Rattle.reg_rows.specs.Naming.{most_bytes};
-ghost use Rattle.reg_rows.specs.Rows.{declared_in, id_at, id_of, member_row, names_in, row_of, values_of};
+ghost use Rattle.reg_rows.specs.Rows.{declared_in, member_row, names_in, row_of, values_of};
 ghost use Rattle.reg_rows.specs.Tables.{is_mask64};
 
 use super::values::{enumerants_by_type, is_at};
-use crate::registry::{Enumerant, Member, Row};
 use crate::tables::Tables;
 use crate::values::Values;
-use reg_forms::{Declaration, MemberForm, Shape};
+use reg_forms::{Declaration, MemberForm};
+use reg_registry::{Enumerant, Member, Row, Shape};
 use std::alloc::Global;
 use vkb_bytes::{Bytes, Listed, Memory};
 use vkb_formula::{NameId, NameTable};

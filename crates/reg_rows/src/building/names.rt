@@ -1,6 +1,6 @@
 //! The tables of declared names and of options.
-ghost use Rattle.std.specs.Prelude.{◌≡◌, ◌≤◌, IfOk, OnOk, length, map};
-ghost use Rattle.vkb_formula.specs.Names.{most_names, with_name};
+ghost use Rattle.std.specs.Prelude.{◌≡◌, ◌≤◌, IfOk, length, map};
+ghost use Rattle.vkb_formula.specs.Names.{most_names};
 ghost use Rattle.reg_rows.specs.Answer.{AreReadings};
 ghost use Rattle.reg_rows.specs.Bits.{Readings};
 ghost use Rattle.reg_rows.specs.Built.{AreOptions};
@@ -11,9 +11,10 @@ ghost use Rattle.reg_rows.specs.Tables.{extensions_in, features_in};
 use crate::bits::Bit;
 use crate::tables::Tables;
 use reg_forms::Forms;
+use reg_registry::put_name;
 use std::alloc::Global;
 use vkb_bytes::Memory;
-use vkb_formula::{NameFault, NameTable};
+use vkb_formula::NameTable;
 
 /// The declared names, in the order of the text.
 pub(crate) fn declared_names(alloc: Global, tables: &Tables) -> Result<NameTable, Memory>
@@ -78,16 +79,4 @@ fn put_bits(names: &mut NameTable, bits: &[Bit]) -> Result<(), Memory>
         put_name(names, bit.name.as_slice())?;
     }
     Ok(())
-}
-
-/// Puts a name into a table that has room for it.
-pub(crate) fn put_name(names: &mut NameTable, name: &[u8]) -> Result<(), Memory>
-    requires { length (with_name name.now names.old) ≤ most_names }
-    ensures { OnOk result (names.new ≡ with_name name.now names.old) }
-{
-    match names.intern(name) {
-        Ok(_) => Ok(()),
-        Err(NameFault::Memory) => Err(Memory),
-        Err(NameFault::Full) => unreachable!(),
-    }
 }

@@ -1,9 +1,9 @@
 //! Which blocks list an enumerant.
 ghost use Rattle.std.specs.Prelude.{◌≡◌, ◌<◌, ◌∷◌, ◌++◌, [], IfOk, OnOk, length, map, replicate, if◌then◌else◌};
+ghost use Rattle.reg_registry.specs.Naming.{most_bytes};
 ghost use Rattle.reg_forms.specs.Sizes.{AreSmall};
 ghost use Rattle.reg_rows.specs.Built.{AreUses};
 ghost use Rattle.reg_rows.specs.Listing.{AreAlways, AreLists, is_end, value_place};
-ghost use Rattle.reg_rows.specs.Naming.{most_bytes};
 
 use crate::tables::Tables;
 use reg_forms::{EntryForm, Sort};

@@ -1,20 +1,20 @@
 //! The enumerants of each enum type.
 ghost use Rattle.std.specs.Prelude.{◌≡◌, ◌<◌, ◌==◌, false, pos, None, Some, All, IfOk, IfSome, is_some, length, map, option_map, slice_get, if◌then◌else◌};
 ghost use Rattle.std.specs.Option.{option_and_then, option_flatten, option_map_or, unwrap_or};
+ghost use Rattle.reg_registry.specs.Naming.{most_bytes};
 ghost use Rattle.reg_forms.specs.Declarations.{is_enum_row};
 ghost use Rattle.reg_forms.specs.Sizes.{AreSmall};
 ghost use Rattle.reg_rows.specs.Built.{AreUses, IsFirstRow};
 ghost use Rattle.reg_rows.specs.Found.{AreValues};
 ghost use Rattle.reg_rows.specs.Listing.{AreByType, enum_place};
-ghost use Rattle.reg_rows.specs.Naming.{most_bytes};
 ghost use Rattle.reg_rows.specs.Rows.{enumerant_row, names_in};
 ghost use Rattle.reg_rows.specs.Values.{alias_of, last_of};
 
 use super::uses::{Uses, empty_lists, find_uses};
-use crate::registry::Enumerant;
 use crate::tables::Tables;
 use crate::values::Values;
-use reg_forms::{Declaration, EnumForm, Given, Kind};
+use reg_forms::{Declaration, EnumForm, Given};
+use reg_registry::{Enumerant, Kind};
 use std::alloc::Global;
 use vkb_bytes::{Bytes, Listed, Memory};
 use vkb_formula::NameTable;

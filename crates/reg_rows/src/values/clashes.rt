@@ -10,7 +10,8 @@ ghost use Rattle.reg_rows.specs.Values.{alias_of};
 use super::Values;
 use crate::faults::put_fault;
 use crate::tables::Tables;
-use reg_forms::{Declaration, EnumForm, Fault, Given, Kind, RowCode};
+use reg_forms::{Declaration, EnumForm, Fault, Given, RowCode};
+use reg_registry::Kind;
 use std::alloc::Global;
 use vkb_bytes::{Bytes, Memory};
 

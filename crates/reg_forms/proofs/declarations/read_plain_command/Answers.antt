@@ -1,5 +1,5 @@
 use Rattle.std.proofs.Common.{sym, ap, ◌∙◌}
-use Rattle.reg_forms.specs.declared.forms.Kind.TheVariants as kind
+use Rattle.reg_registry.specs.declared.kinds.Kind.TheVariants as kind
 use Rattle.reg_forms.specs.Declarations.{command_row}
 use Rattle.reg_forms.specs.Forms.{with_items}
 use Rattle.reg_forms.specs.Parts.{inner_mentions, part_faults}

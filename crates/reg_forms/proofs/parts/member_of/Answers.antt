@@ -1,4 +1,4 @@
-use Rattle.std.proofs.Common.{◌≡◌, ap, ◌∙◌}
+use Rattle.std.proofs.Common.{ap, ◌∙◌}
 use Rattle.vkb_bytes.specs.Trimming.{collapse}
 use Rattle.reg_forms.specs.Attributes.{count_in}
 use Rattle.reg_forms.proofs.parts.member_of.Goals as goal

@@ -1,10 +1,11 @@
-use Rattle.std.proofs.Common.{◌<◌, ◌∷◌, All, IfOk, List, Some, None, Ok, length, map, slice_get, ◌≡◌, sym, subst, ap, arith, ◌∙◌, ℕ}
+use Rattle.std.proofs.Common.{◌<◌, All, List, Some, length, map, slice_get, ◌≡◌, sym, subst, ap, ◌∙◌, ℕ}
+use Rattle.reg_registry.specs.Naming.{AreSound, IsOnCircle}
+use Rattle.reg_registry.specs.declared.registry.Row.{Row}
 use Rattle.reg_rows.proofs.AcceptedLemmas.{few-names, are-options, named-within, are-sound}
 use Rattle.reg_rows.proofs.BuildLemmas.{parts-are, none-found, one-found, named-circle, found-within, rows-few}
 use Rattle.reg_forms.specs.declared.forms.Forms.{Forms}
-use Rattle.reg_rows.specs.Naming.{AreSound}
-use Rattle.reg_rows.specs.Rows.{Rows, declared_in, row_of}
-use Rattle.reg_rows.specs.declared.registry.Row.{Row}
+use Rattle.reg_rows.specs.Rows.{rows_of}
+use Rattle.reg_registry.specs.Rows.{Rows}
 use Rattle.reg_rows.proofs.building.build.Goals as goal
 
 pub declared_names-requires : goal.declared_names-requires
@@ -20,13 +21,13 @@ option_rows-requires-clause-bits c =
     are-options c.args.tables.now c.requires.accepted.0 c.args.bits.now c.requires.small c.requires.once c.requires.accepted.1
     (c.requires.bits c.requires.accepted.0 c.requires.accepted.1.read)
 
-pub circle-requires-clause-ids : goal.circle-requires-clause-ids
-circle-requires-clause-ids c =
+pub first_circle-requires-clause-ids : goal.first_circle-requires-clause-ids
+first_circle-requires-clause-ids c =
     subst (λ (rows : List Row). All (λ row. All (λ id. id.0 < length rows) row.named) rows) (sym (c.deref.ensures.value ∙ c.in_ok-rows.ensures))
     (named-within c.args.tables.now)
 
-pub circle-requires-clause-few : goal.circle-requires-clause-few
-circle-requires-clause-few c =
+pub first_circle-requires-clause-few : goal.first_circle-requires-clause-few
+first_circle-requires-clause-few c =
     subst (λ (rows : List Row). length rows < 4294967296) (sym (c.deref.ensures.value ∙ c.in_ok-rows.ensures))
     (rows-few c.args.tables.now (few-names c.args.tables.now c.requires.accepted.0 c.requires.accepted.1))
 
@@ -56,10 +57,14 @@ from_parts-requires c =
     (none-found _ _ c.deref.result.now c.in_ok-places.field-0 (c.deref.ensures.value ∙ c.in_ok-rows.ensures) c.in_default.is c.in_ok-places.ensures))
 
 pub returns : goal.returns
-returns c = (
-  c.requires.accepted.0,
-  c.requires.accepted.1,
-  c.from_parts.ensures ∙ parts-are c.args.tables.now c.requires.accepted.0 _ _ _ _ _ _ c.in_ok-names.ensures c.in_ok-rows.ensures
-      (c.in_ok-options.ensures c.requires.accepted.0 c.requires.accepted.1.read) (c.in_ok-asked.ensures c.requires.accepted.0 c.requires.accepted.1.read)
-      (c.in_ok-listed.ensures c.requires.accepted.0 c.requires.accepted.1.read) (c.in_ok-tags.ensures ∙ c.as_slice.ensures ∙ ap (λ (f : Forms). f.tags) c.forms.ensures),
-)
+returns c =
+    let same : c.from_parts.result ≡ rows_of c.args.tables.now c.requires.accepted.0 =
+    c.from_parts.ensures ∙ parts-are c.args.tables.now c.requires.accepted.0 _ _ _ _ _ _ c.in_ok-names.ensures c.in_ok-rows.ensures
+    (c.in_ok-options.ensures c.requires.accepted.0 c.requires.accepted.1.read) (c.in_ok-asked.ensures c.requires.accepted.0 c.requires.accepted.1.read)
+    (c.in_ok-listed.ensures c.requires.accepted.0 c.requires.accepted.1.read) (c.in_ok-tags.ensures ∙ c.as_slice.ensures ∙ ap (λ (f : Forms). f.tags) c.forms.ensures) in (
+      c.requires.accepted.0,
+      c.requires.accepted.1,
+      same,
+      subst (λ (r : Rows). (place : ℕ) → IsOnCircle r.rows place → ⊥) (sym same)
+          (none-found _ _ c.deref.result.now c.in_ok-places.field-0 (c.deref.ensures.value ∙ c.in_ok-rows.ensures) c.in_default.is c.in_ok-places.ensures),
+    )

@@ -1,7 +1,7 @@
 use Rattle.std.proofs.Common.{◌≡◌, ◌+◌, [], length, map, replicate, take, sym, subst, ap, ◌∙◌, arith, None}
 use Rattle.std.proofs.lemmas.List.{take_all}
 use Rattle.vkb_formula.specs.Names.{place_of}
-use Rattle.reg_rows.specs.Rows.{id_at}
+use Rattle.reg_registry.specs.Rows.{id_at}
 use Rattle.reg_rows.specs.Lists.{each_number}
 use Rattle.reg_rows.proofs.BlockLemmas.{IsListing, entry-none, entry-one, listed-none, listed_in}
 use Rattle.reg_rows.proofs.PlaceLemmas.{place_of-within}

@@ -3,8 +3,8 @@ use Rattle.std.specs.List.{position}
 use Rattle.std.specs.Str.{bytes_eq}
 use Rattle.std.proofs.lemmas.List.{get_or-map, length-map, length_push}
 use Rattle.std.proofs.lemmas.Option.{slice_get_within}
+use Rattle.reg_registry.specs.declared.registry.Row.{Row}
 use Rattle.reg_rows.specs.Rows.{declared_in}
-use Rattle.reg_rows.specs.declared.registry.Row.{Row}
 use Rattle.reg_rows.proofs.RowLemmas.{ahead-more, next-there, rows-more, rows-same}
 use Rattle.reg_rows.proofs.building.declared.declared_rows.Goals as goal
 use Rattle.reg_rows.proofs.building.declared.declared_rows.Goals.{then-is_at+in_ok-row+in_ok-push, else-is_at}

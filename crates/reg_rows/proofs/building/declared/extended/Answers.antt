@@ -1,7 +1,7 @@
 use Rattle.std.proofs.Common.{◌≡◌, ◌<◌, ◌∷◌, ◌++◌, [], length, take, Some, None, option_map, append-nil, sym, ap, ◌∙◌, arith}
 use Rattle.std.specs.List.{cons_option, filter_map}
 use Rattle.vkb_formula.specs.Names.{place_of}
-use Rattle.reg_rows.specs.Rows.{id_at, id_of}
+use Rattle.reg_registry.specs.Rows.{id_at, id_of}
 use Rattle.reg_rows.proofs.ListingLemmas.{filter_map-more}
 use Rattle.reg_rows.proofs.building.declared.extended.Goals as goal
 use Rattle.reg_rows.proofs.building.declared.extended.Goals.{in-Some+in_ok-push, in_default}

@@ -1,6 +1,6 @@
 use Rattle.std.proofs.Common.{◌≡◌, take}
 use Rattle.std.specs.List.{filter_map}
-use Rattle.reg_rows.specs.Rows.{id_of}
+use Rattle.reg_registry.specs.Rows.{id_of}
 use Rattle.reg_rows.proofs.building.declared.extended.Given as goal
 
 abbrev pub invariant-loop-text : goal.invariant-loop-text

@@ -1,9 +1,9 @@
 use Rattle.std.proofs.Common.{◌≡◌, ◌<◌, ◌∷◌, ◌++◌, [], List, ℕ, length, take, map, get_or, cond, codes, true, false, append-nil, subst, sym, ap, ◌∙◌, arith}
 use Rattle.std.proofs.lemmas.List.{take_all}
+use Rattle.reg_registry.specs.Rows.{id_at}
 use Rattle.reg_forms.specs.declared.forms.Mention.{Mention}
 use Rattle.reg_rows.specs.Listing.{AreMarked, places_besides}
 use Rattle.reg_rows.specs.Lists.{each_number}
-use Rattle.reg_rows.specs.Rows.{id_at}
 use Rattle.reg_rows.specs.Tables.{is_mask64}
 use Rattle.reg_rows.proofs.ListingLemmas.{besides-append, besides-more}
 use Rattle.reg_rows.proofs.building.declared.named.Goals as goal

@@ -6,11 +6,11 @@ use Rattle.std.proofs.lemmas.Bool.{not-false, not-true}
 use Rattle.std.proofs.lemmas.List.{get_or-map, length-map, length-set, take_more}
 use Rattle.std.proofs.lemmas.Option.{slice_get_read}
 use Rattle.vkb_formula.specs.Names.{AreDifferent}
+use Rattle.reg_registry.specs.declared.registry.Enumerant.{Enumerant}
 use Rattle.reg_forms.specs.declared.forms.EnumForm.{EnumForm}
 use Rattle.reg_rows.specs.Listing.{AreByType, enum_place}
 use Rattle.reg_rows.specs.Lists.{is_among}
 use Rattle.reg_rows.specs.Rows.{declared_in, enumerant_row, names_in}
-use Rattle.reg_rows.specs.declared.registry.Enumerant.{Enumerant}
 use Rattle.reg_rows.proofs.ListingLemmas.{by_type-known, by_type-more, changed-at}
 use Rattle.reg_rows.proofs.RowLemmas.{among-is, at-is, enum-within}
 use Rattle.reg_rows.proofs.building.values.enumerants_by_type.Goals as goal

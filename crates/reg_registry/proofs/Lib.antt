@@ -1,0 +1,10 @@
+pub mod BareLemmas
+pub mod LeadLemmas
+pub mod PlacedLemmas
+pub mod WalkCloseLemmas
+pub mod WalkEnterLemmas
+pub mod WalkLemmas
+pub mod WalkLoopLemmas
+pub mod WalkTestLemmas
+pub mod WalkWeightLemmas
+pub mod WayLemmas
