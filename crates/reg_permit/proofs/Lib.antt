@@ -1,0 +1,11 @@
+pub mod ChoiceLemmas
+pub mod DecideLemmas
+pub mod FeatureLemmas
+pub mod LawLemmas
+pub mod LowestLemmas
+pub mod NextLemmas
+pub mod NodeLemmas
+pub mod OrderLemmas
+pub mod RuleLemmas
+pub mod RuleNodeLemmas
+pub mod RulesLemmas

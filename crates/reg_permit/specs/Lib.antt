@@ -1,0 +1,6 @@
+pub mod Choices
+pub mod Laws
+pub mod Lowest
+pub mod Nodes
+pub mod Permitted
+pub mod Size
