@@ -1,5 +1,6 @@
 #!/bin/bash
-# The time that the rows of a registry take beside its markup, and that it grows with a registry's size and not with its square.
+# The time that the rows of a registry take beside its markup, that it grows with a registry's size and not with its square, and what is told of
+# one with as many names, enumerants or options as a table holds, and with one more.
 #   bench/rows.sh             (needs `apt-get install libvulkan-dev`, Python, GNU time, and `rt`)
 set -eu
 top=$(cd "$(dirname "$0")/.." && pwd)
