@@ -1,0 +1,13 @@
+pub mod LineLemmas
+pub mod AheadLemmas
+pub mod PlaceLemmas
+pub mod TagLemmas
+pub mod ParameterLemmas
+pub mod PageLemmas
+pub mod WritingLemmas
+pub mod FrontLemmas
+pub mod PieceLemmas
+pub mod FedLemmas
+pub mod KeptLemmas
+pub mod AgainLemmas
+pub mod FileLemmas
