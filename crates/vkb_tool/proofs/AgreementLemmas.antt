@@ -13,13 +13,16 @@ use Rattle.doc_build.specs.Choices.{Choice, bare_setting, free_names}
 use Rattle.lift_check.specs.Verdict.{IsVerdict}
 use Rattle.lift_check.specs.declared.Verdict.{Verdict}
 use Rattle.lift_check.specs.declared.Verdict.TheVariants.{No, Yes}
+use Rattle.vu_tags.specs.Tagged.{Names}
 use Rattle.vkb_tool.specs.declared.status.Status.TheVariants.{Broken, Refused, Usage}
 use Rattle.vkb_tool.specs.declared.words.Request.{Request}
-use Rattle.vkb_tool.specs.declared.words.Request.TheVariants.{Check}
-use Rattle.vkb_tool.specs.Fault.{Fault, InDocument, NotBuilt, TooManyNames}
-use Rattle.vkb_tool.specs.Outcome.{AreBuilt, Effect, HasNoFault, IsCheckFault, IsFaultIn, IsFirstFault, IsFirstUnbuilt, NameOnePlace, Outcome, TellsPlace, checked, is_unbuilt, misplaced, most_text, refused, status_of, writes_alone}
+use Rattle.vkb_tool.specs.declared.words.Request.TheVariants.{Check, Tag}
+use Rattle.vkb_tool.specs.Fault.{Fault, BadTag, InDocument, NoNumber, NotBuilt, TooManyNames}
+use Rattle.vkb_tool.specs.Outcome.{AreBuilt, Effect, HasNoFault, IsCheckFault, IsFaultIn, IsFirstFault, IsFirstUnbuilt, NameOnePlace, Outcome, TellsPlace, checked, is_unbuilt, misplaced, most_text, puts_tags, refused, status_of, tagged, writes_alone}
 use Rattle.vkb_tool.specs.Report.{fault_line, report_of, usage_line}
+use Rattle.vkb_tool.specs.Tags.{texts_of}
 use Rattle.vkb_tool.specs.Words.{Spells}
+use Rattle.vkb_tool.proofs.TagsLemmas.{OnePages, same_tags_fault}
 use Rattle.vkb_tool.proofs.WordsLemmas.{one_position, same_request}
 
 -- one thing is found under each name of files
@@ -48,6 +51,10 @@ never_unbuilt lines line built is =
 same_fault_in : (always : List (List ℕ)) (lines : List FlatLine) (fault other : Fault) → IsFaultIn always lines fault → IsFaultIn always lines other → fault ≡ other
 same_fault_in always lines (InDocument fault) other is also = absurd is
 same_fault_in always lines fault (InDocument other) is also = absurd also
+same_fault_in always lines (BadTag file number) other is also = absurd is
+same_fault_in always lines fault (BadTag file number) is also = absurd also
+same_fault_in always lines (NoNumber needed left) other is also = absurd is
+same_fault_in always lines fault (NoNumber needed left) is also = absurd also
 same_fault_in always lines (NotBuilt file number) (NotBuilt name count) (line, first, file_is, number_is) (other, also, name_is, count_is) =
     let same : line ≡ other = same_unbuilt lines line other first also in
     let files_are : file ≡ name = file_is ∙ ap (λ (l : FlatLine). l.file) same ∙ sym name_is in
@@ -78,6 +85,8 @@ module _ (one_walk : OneWalk) where
   lines_of_fault files root always (InDocument fault) is = inl (fault, refl, is)
   lines_of_fault files root always (NotBuilt file number) is = inr is
   lines_of_fault files root always (TooManyNames count) is = inr is
+  lines_of_fault files root always (BadTag file number) is = absurd is
+  lines_of_fault files root always (NoNumber needed left) is = absurd is
 
   same_check_fault : (files : Files) (root : List ℕ) (always : List (List ℕ)) (fault other : Fault) → IsCheckFault files root always fault → IsCheckFault files root always other → fault ≡ other
   same_check_fault files root always fault other is also =
@@ -95,6 +104,7 @@ module _ (one_walk : OneWalk) where
 
   pub same_fault : (request : Request) (files : Files) (fault other : Fault) → IsFirstFault request files fault → IsFirstFault request files other → fault ≡ other
   same_fault (Check registry root api always) files fault other is also = same_check_fault files root always fault other is also
+  same_fault (Tag first names) files fault other is also = same_tags_fault files first names fault other is also
 
 -- ---- one outcome
 
@@ -117,7 +127,7 @@ same_alike words files effect other judged same = record { status_is = ap (λ (e
 abbrev answer_of : List FlatLine → List (List ℕ) → Verdict → Effect
 answer_of lines options verdict = writes_alone (status_of verdict) (report_of lines options verdict)
 
-module _ (one_walk : OneWalk)
+module _ (one_walk : OneWalk) (one_pages : OnePages)
     (same_count : (always : List (List ℕ)) (lines : List FlatLine) (links more : ℕ) → IsVerdict (bare_setting always lines) lines (Yes links) → IsVerdict (bare_setting always lines) lines (Yes more) → links ≡ more)
     (never_both : (always : List (List ℕ)) (lines : List FlatLine) (links : ℕ) (place : Place) (id : List ℕ) (choice : Choice) (count : ℕ)
     → IsVerdict (bare_setting always lines) lines (Yes links) → ¬ (IsVerdict (bare_setting always lines) lines (No place id choice count)))
@@ -177,6 +187,19 @@ module _ (one_walk : OneWalk)
       } in
       rw (sym same_always, sym same) whole
 
+  -- words that ask for a check don't ask for tags
+  never_both_asked : (registry : Option (List ℕ)) (root api : List ℕ) (always : List (List ℕ)) (first : ℕ) (names : List (List ℕ)) → Spells words (Check registry root api always) → Spells words (Tag first names) → ⊥
+  never_both_asked registry root api always first names spelled also =
+      let same = same_request words (Check registry root api always) (Tag first names) spelled also in cc
+
+  -- two runs that tag for one request
+  same_tags : (first number : ℕ) (names others : List (List ℕ)) (pages leaves : Names) → Tag first names ≡ Tag number others → pages ≡ leaves
+      → puts_tags pages first names (texts_of files names) ≡ puts_tags leaves number others (texts_of files others)
+  same_tags first number names others pages leaves request same =
+      let numbers : first ≡ number = cc in
+      let files_are : names ≡ others = cc in
+      rw (numbers, files_are) (ap (λ (p : Names). puts_tags p number others (texts_of files others)) same)
+
   -- two outcomes are alike
   outcomes_alike : (effect other : Effect) → Outcome words files effect → Outcome words files other → AreAlike words files effect other
   outcomes_alike _ _ (misplaced position is) (misplaced place also) =
@@ -196,6 +219,19 @@ module _ (one_walk : OneWalk)
       absurd (never_refused request (Check registry root api always) fault also spelled flawed sound)
   outcomes_alike _ _ (checked registry root api always lines verdict spelled sound made judged) (checked file name word names others told also right built said) =
       checks_alike registry file root name api word always names lines others verdict told spelled also made built judged said
+  outcomes_alike _ _ (misplaced position is) (tagged first names pages spelled sound tells) = absurd (is.none (Tag first names) spelled)
+  outcomes_alike _ _ (refused request fault spelled flawed) (tagged first names pages also sound tells) =
+      absurd (never_refused request (Tag first names) fault spelled also flawed sound)
+  outcomes_alike _ _ (checked registry root api always lines verdict spelled sound made judged) (tagged first names pages also right tells) =
+      absurd (never_both_asked registry root api always first names spelled also)
+  outcomes_alike _ _ (tagged first names pages spelled sound tells) (misplaced position is) = absurd (is.none (Tag first names) spelled)
+  outcomes_alike _ _ (tagged first names pages spelled sound tells) (refused request fault also flawed) =
+      absurd (never_refused request (Tag first names) fault also spelled flawed sound)
+  outcomes_alike _ _ (tagged first names pages spelled sound tells) (checked registry root api always lines verdict also right made judged) =
+      absurd (never_both_asked registry root api always first names also spelled)
+  outcomes_alike _ _ (tagged first names pages spelled sound tells) (tagged number others leaves also right said) =
+      same_alike words files (puts_tags pages first names (texts_of files names)) (puts_tags leaves number others (texts_of files others)) (λ e. cc)
+      (same_tags first number names others pages leaves (same_request words (Tag first names) (Tag number others) spelled also) (one_pages pages leaves tells said))
 
   pub same_status : (effect other : Effect) → Outcome words files effect → Outcome words files other → effect.status ≡ other.status
   same_status effect other is also = (outcomes_alike effect other is also).status_is

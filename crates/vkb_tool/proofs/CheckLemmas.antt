@@ -22,7 +22,7 @@ use Rattle.lift_check.specs.Choices.{most_options}
 use Rattle.lift_check.specs.Verdict.{IsVerdict}
 use Rattle.lift_check.specs.declared.Verdict.{Verdict}
 use Rattle.lift_check.specs.declared.Verdict.TheVariants.{Yes, No}
-use Rattle.vkb_tool.specs.Fault.{Fault, InDocument, NotBuilt, TooManyNames}
+use Rattle.vkb_tool.specs.Fault.{Fault, BadTag, InDocument, NoNumber, NotBuilt, TooManyNames}
 use Rattle.vkb_tool.specs.Outcome.{AreBuilt, IsFaultIn, IsFirstUnbuilt, is_unbuilt}
 
 -- what isn't there is nothing
@@ -93,6 +93,8 @@ no_pages_set (first ∷ lines) built =
 -- lines that are built, of few options, have no fault
 pub nothing_wrong : (always : List (List ℕ)) (lines : List FlatLine) (options : List (List ℕ)) → AreBuilt lines → options ≡ free_names always lines → length options ≤ most_options → (fault : Fault) → ¬ IsFaultIn always lines fault
 nothing_wrong always lines options built free few (InDocument fault) is = is
+nothing_wrong always lines options built free few (BadTag file number) is = is
+nothing_wrong always lines options built free few (NoNumber needed left) is = is
 nothing_wrong always lines options built free few (NotBuilt file number) (line, first, named, numbered) =
     let within = slice_get_within lines first.place line first.here in
     let none = All-get_or (λ (l : FlatLine). is_unbuilt l.kind ≡ false) lines first.place line within built in

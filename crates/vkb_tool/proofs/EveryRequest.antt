@@ -1,19 +1,22 @@
 -- Words are those of a request, or one of them is the first that has no place.
-use Rattle.std.proofs.Common.{◌≡◌, ◌≢◌, ℕ, ◌+◌, ◌-◌, ◌≤◌, ◌⊎◌, List, [], ◌∷◌, ◌++◌, length, take, drop, map, Option, Some, None, slice_get, codes, refl, sym, ap, ◌∙◌, arith, append_assoc, inl, inr, All}
+use Rattle.std.proofs.Common.{◌≡◌, ◌≢◌, ℕ, zero, suc, ◌+◌, ◌-◌, ◌≤◌, ◌⊎◌, List, [], ◌∷◌, ◌++◌, length, take, drop, map, Option, Some, None, slice_get, codes, refl, sym, ap, ◌∙◌, subst, arith, append_assoc, inl, inr, All}
 use Rattle.std.specs.Str.{is_utf8}
 use Rattle.std.specs.Cmp.Lexicographic.{bytes_decides}
 use Rattle.std.specs.Str.{bytes_eq}
-use Rattle.std.proofs.lemmas.Bool.{cases_Bool, cases_eq, false≢true}
+use Rattle.std.proofs.lemmas.Bool.{cases_Bool, cases_eq, cases_lt, false≢true}
 use Rattle.std.proofs.lemmas.List.{append-nil, length-append, length-take, map_push, take-append-drop}
 use Rattle.std.proofs.lemmas.List.Elements.{All-nil, All-push}
 use Rattle.std.proofs.lemmas.Option.{none-some, same_Some, slice_get_within}
 use Rattle.std.proofs.lemmas.Str.{IsUtf8-from_is_utf8, is_utf8-from_IsUtf8}
 use Rattle.doc_cond.specs.Lines.{is_name_byte, is_run}
-use Rattle.vkb_tool.specs.Reading.{IsNoAttribute, SetsAttributes}
-use Rattle.vkb_tool.specs.Words.{IsAttribute, IsFileName, IsMisplaced, Spells, attribute_word}
+use Rattle.vkb_bytes.specs.Numbers.{numeral_of}
+use Rattle.vkb_formula.specs.Names.{AreDifferent}
+use Rattle.vkb_tool.specs.Reading.{IsNoAttribute, IsNoFile, IsNumbered, SetsAttributes}
+use Rattle.vkb_tool.specs.Words.{IsAttribute, IsFileName, IsMisplaced, Spells, WritesFirst, attribute_word}
 use Rattle.vkb_tool.specs.declared.words.Request.{Request}
-use Rattle.vkb_tool.specs.declared.words.Request.TheVariants.{Check}
-use Rattle.vkb_tool.proofs.WordsLemmas.{check_words, front_1, front_2, front_3, front_4, is_name_a, misplaced_early, no_attribute_at}
+use Rattle.vkb_tool.specs.declared.words.Request.TheVariants.{Check, Tag}
+use Rattle.vkb_tool.proofs.WordsLemmas.{check_words, front_1, front_2, front_3, front_4, is_name_a, misplaced_early, misplaced_first, no_attribute_at}
+use Rattle.vkb_tool.proofs.TagWordsLemmas.{first_two, no_file_at, no_file_named, no_number, tag_words}
 
 -- bytes are the same or not
 pub same_or_not : (a b : List ℕ) → (a ≡ b) ⊎ (a ≢ b)
@@ -112,19 +115,166 @@ read_attributes words root name front four =
       | inr wrong ↦ inr (wrong.0, no_attribute_at words root wrong.0 name front wrong.1)
     ]
 
+-- the words of a check, or one of them is the first that has no place
+every_check : (words : List (List ℕ)) → slice_get words 0 ≡ Some (codes "check") → ((request : Request) × Spells words request) ⊎ ((position : ℕ) × IsMisplaced words position)
+every_check words first =
+    elim (is_or_not (slice_get words 1) (codes "-")) [
+      | inr not_so ↦ inr (2, misplaced_early words 1 (97 ∷ []) is_name_a (omega arith) (omega arith) (front_1 words (97 ∷ []) first) (λ other names name e. not_so e))
+      | inl second ↦ elim (named_or_not (slice_get words 2)) [
+        | inr not_so ↦ inr (3, misplaced_early words 2 (97 ∷ []) is_name_a (omega arith) (omega arith) (front_2 words (97 ∷ []) first second) (λ other names name e. not_so other e name))
+        | inl (root, third, name) ↦ elim (is_or_not (slice_get words 3) (codes "-")) [
+          | inr not_so ↦ inr (4, misplaced_early words 3 root name (omega arith) (omega arith) (front_3 words root first second third) (λ other names is e. not_so e))
+          | inl fourth ↦ read_attributes words root name (front_4 words root first second third fourth) (slice_get_within words 3 (codes "-") fourth)
+        ]
+      ]
+    ]
+
+-- ---- a request to tag
+
+-- a word is a first number or none
+writes_or_not : (word : List ℕ) → ((first : ℕ) × WritesFirst word first) ⊎ ((first : ℕ) → ¬ WritesFirst word first)
+writes_or_not word =
+    elim (cases_lt 5 (length word)) [
+      | inl long ↦ inr (λ first is. let short = is.short in absurd (omega arith))
+      | inr short ↦ writes (numeral_of 10 word) refl short
+    ]
+  where
+    same_number : (first number : ℕ) → WritesFirst word first → numeral_of 10 word ≡ Some number → first ≡ number
+    same_number first number is written = same_Some first number (sym is.written ∙ written)
+
+    writes : (found : Option ℕ) → numeral_of 10 word ≡ found → length word ≤ 5 → ((first : ℕ) × WritesFirst word first) ⊎ ((first : ℕ) → ¬ WritesFirst word first)
+    writes None written short = inr (λ first is. none-some first (sym written ∙ is.written))
+    writes (Some number) written short =
+        elim (cases_lt number 1) [
+          | inl nothing ↦ inr (λ first is. let same = same_number first number is written in let some = is.from_one in absurd (omega arith))
+          | inr from_one ↦ elim (cases_lt 99999 number) [
+            | inl much ↦ inr (λ first is. let same = same_number first number is written in let most = is.most in absurd (omega arith))
+            | inr most ↦ inl (number, record { short = short; written = written; from_one = from_one; most = most })
+          ]
+        ]
+
+-- a first number is found or none
+numbered_or_not : (words : List (List ℕ)) → ((first : ℕ) × IsNumbered words 1 first) ⊎ ((first : ℕ) → ¬ IsNumbered words 1 first)
+numbered_or_not words = found_or_not (slice_get words 1) refl
+  where
+    found_or_not : (found : Option (List ℕ)) → slice_get words 1 ≡ found → ((first : ℕ) × IsNumbered words 1 first) ⊎ ((first : ℕ) → ¬ IsNumbered words 1 first)
+    found_or_not None here = inr (λ first is. none-some is.0 (sym here ∙ is.1))
+    found_or_not (Some word) here =
+        elim (writes_or_not word) [
+          | inl (first, is) ↦ inl (first, (word, here, is))
+          | inr none ↦ inr (λ first is. none first (subst (λ (w : List ℕ). WritesFirst w first) (sym (same_Some word is.0 (sym here ∙ is.1))) is.2))
+        ]
+
+-- a name is among others or not
+among_or_not : (names : List (List ℕ)) (name : List ℕ) → ((place : ℕ) × (slice_get names place ≡ Some name)) ⊎ ((place : ℕ) → slice_get names place ≢ Some name)
+among_or_not [] name = inr (λ place found. none-some name found)
+among_or_not (first ∷ names) name =
+    elim (same_or_not first name) [
+      | inl same ↦ inl (0, ap Some same)
+      | inr differs ↦ elim (among_or_not names name) [
+        | inl (place, found) ↦ inl (suc place, found)
+        | inr none ↦ inr (nowhere differs none)
+      ]
+    ]
+  where
+    nowhere : first ≢ name → ((place : ℕ) → slice_get names place ≢ Some name) → (place : ℕ) → slice_get (first ∷ names) place ≢ Some name
+    nowhere differs none zero found = differs (same_Some first name found)
+    nowhere differs none (suc place) found = none place found
+
+-- what is found among names and one more
+found_pushed : (names : List (List ℕ)) (last : List ℕ) (place : ℕ) (name : List ℕ) → slice_get (names ++ last ∷ []) place ≡ Some name → (slice_get names place ≡ Some name) ⊎ ((place ≡ length names) × (last ≡ name))
+found_pushed [] last zero name found = inr (refl, same_Some last name found)
+found_pushed [] last (suc place) name found = absurd (none-some name found)
+found_pushed (first ∷ names) last zero name found = inl found
+found_pushed (first ∷ names) last (suc place) name found =
+    elim (found_pushed names last place name found) [
+      | inl before ↦ inl before
+      | inr (at, same) ↦ inr (ap suc at, same)
+    ]
+
+-- names that differ, and one that isn't among them
+different_pushed : (names : List (List ℕ)) (last : List ℕ) → AreDifferent names → ((place : ℕ) → slice_get names place ≢ Some last) → AreDifferent (names ++ last ∷ [])
+different_pushed names last different new = λ i j name is also.
+    elim (found_pushed names last i name is) [
+      | inl before ↦ elim (found_pushed names last j name also) [
+        | inl here ↦ different i j name before here
+        | inr (at, same) ↦ absurd (new i (before ∙ ap Some (sym same)))
+      ]
+      | inr (at, same) ↦ elim (found_pushed names last j name also) [
+        | inl here ↦ absurd (new j (here ∙ ap Some (sym same)))
+        | inr (end, alike) ↦ at ∙ sym end
+      ]
+    ]
+
+-- words behind the first two that name different files
+record NamesSome (words names : List (List ℕ)) : Type 0 where
+  pub named : All IsFileName names
+  pub different : AreDifferent names
+  pub words_are : words ≡ take 2 words ++ names
+
+-- a word that isn't another file's name
+not_new : (words front names rest : List (List ℕ)) (word : List ℕ) → front ≡ take 2 words ++ names → 2 ≤ length front → All IsFileName names → AreDifferent names → words ≡ front ++ word ∷ rest
+    → ((name : List ℕ) → word ≡ name → IsFileName name → ((place : ℕ) → slice_get names place ≢ Some name) → ⊥) → IsNoFile words (length front + 1)
+not_new words front names rest word front_is two named different split never =
+    let back : length front + 1 - 1 ≡ length front = omega arith in
+    let before : take (length front) words ≡ front = ap (take (length front)) split ∙ taken_front front (word ∷ rest) in
+    let read : slice_get words (length front) ≡ Some word = ap (λ (ws : List (List ℕ)). slice_get ws (length front)) split ∙ word_behind front rest word in
+    let inside = slice_get_within words (length front) word read in
+    record {
+      names = names;
+      named = named;
+      different = different;
+      before = rw back (before ∙ front_is);
+      behind = omega arith;
+      within = omega arith;
+      here = λ name is. never name (same_Some word name (sym read ∙ ap (slice_get words) (sym back) ∙ is.0.0)) is.0.1 is.1;
+    }
+
+-- the words behind some names, or one is the first that isn't another file's name
+read_names : (words front names rest : List (List ℕ)) → front ≡ take 2 words ++ names → 2 ≤ length front → All IsFileName names → AreDifferent names → words ≡ front ++ rest
+    → ((all : List (List ℕ)) × NamesSome words all) ⊎ ((position : ℕ) × IsNoFile words position)
+read_names words front names [] front_is two named different split = inl (names, record { named = named; different = different; words_are = split ∙ append-nil front ∙ front_is })
+read_names words front names (word ∷ rest) front_is two named different split =
+    elim (named_or_not (Some word)) [
+      | inr not_so ↦ inr (length front + 1, not_new words front names rest word front_is two named different split (λ name same is new. not_so name (ap Some same) is))
+      | inl (name, is, file) ↦ elim (among_or_not names word) [
+        | inl (place, found) ↦ inr (length front + 1, not_new words front names rest word front_is two named different split (λ other same is_name new. new place (found ∙ ap Some same)))
+        | inr new ↦
+            let more = names ++ word ∷ [] in
+            let longer : front ++ word ∷ [] ≡ take 2 words ++ more = ap (λ (ws : List (List ℕ)). ws ++ word ∷ []) front_is ∙ append_assoc (take 2 words) names (word ∷ []) in
+            let long : 2 ≤ length (front ++ word ∷ []) = simp length-append (omega arith) in
+            let file_name : IsFileName word = subst IsFileName (sym (same_Some word name is)) file in
+            read_names words (front ++ word ∷ []) more rest longer long (All-push IsFileName names word named file_name) (different_pushed names word different new) (split ∙ sym (append_assoc front (word ∷ []) rest))
+      ]
+    ]
+
+-- the words of a request to tag, or one of them is the first that has no place
+every_tag : (words : List (List ℕ)) → slice_get words 0 ≡ Some (codes "tag") → ((request : Request) × Spells words request) ⊎ ((position : ℕ) × IsMisplaced words position)
+every_tag words tag =
+    elim (numbered_or_not words) [
+      | inr none ↦ inr (2, no_number words tag none)
+      | inl (first, (word, second, numbered)) ↦ elim (cases_lt (length words) 3) [
+        | inl short ↦ inr (3, no_file_named words first tag (word, second, numbered) short)
+        | inr enough ↦ elim (read_names words (take 2 words) [] (drop 2 words) (sym (append-nil (take 2 words))) (simp length-take (omega arith)) (All-nil IsFileName) none_different (sym (take-append-drop 2 words))) [
+          | inr (position, wrong) ↦ inr (position, no_file_at words first position tag (word, second, numbered) wrong)
+          | inl (names, is) ↦
+              let words_are : words ≡ tag_words word names = is.words_are ∙ ap (λ (w : List (List ℕ)). w ++ names) (first_two words word tag second) in
+              let some : names ≢ [] = λ none. let short : length words ≡ 2 = ap length words_are ∙ ap (λ (ns : List (List ℕ)). length (tag_words word ns)) none in absurd (omega arith) in
+              inl (Tag first names, (word, numbered, record { some = some; named = is.named; different = is.different }, words_are))
+        ]
+      ]
+    ]
+  where
+    none_different : AreDifferent []
+    none_different i j name is also = absurd (none-some name is)
+
 -- each list of words is those of a request, or one of them is the first that has no place
 pub every_request : (words : List (List ℕ)) → ((request : Request) × Spells words request) ⊎ ((position : ℕ) × IsMisplaced words position)
 every_request words =
     elim (is_or_not (slice_get words 0) (codes "check")) [
-      | inr not_so ↦ inr (1, misplaced_early words 0 (97 ∷ []) is_name_a (omega arith) refl (λ other names name e. not_so e))
-      | inl first ↦ elim (is_or_not (slice_get words 1) (codes "-")) [
-        | inr not_so ↦ inr (2, misplaced_early words 1 (97 ∷ []) is_name_a (omega arith) (front_1 words (97 ∷ []) first) (λ other names name e. not_so e))
-        | inl second ↦ elim (named_or_not (slice_get words 2)) [
-          | inr not_so ↦ inr (3, misplaced_early words 2 (97 ∷ []) is_name_a (omega arith) (front_2 words (97 ∷ []) first second) (λ other names name e. not_so other e name))
-          | inl (root, third, name) ↦ elim (is_or_not (slice_get words 3) (codes "-")) [
-            | inr not_so ↦ inr (4, misplaced_early words 3 root name (omega arith) (front_3 words root first second third) (λ other names is e. not_so e))
-            | inl fourth ↦ read_attributes words root name (front_4 words root first second third fourth) (slice_get_within words 3 (codes "-") fourth)
-          ]
-        ]
+      | inl check ↦ every_check words check
+      | inr no_check ↦ elim (is_or_not (slice_get words 0) (codes "tag")) [
+        | inl tag ↦ every_tag words tag
+        | inr no_tag ↦ inr (1, misplaced_first words no_check no_tag)
       ]
     ]

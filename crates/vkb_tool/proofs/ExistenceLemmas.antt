@@ -12,14 +12,16 @@ use Rattle.doc_build.specs.Choices.{bare_setting, free_names}
 use Rattle.lift_check.specs.Choices.{most_options}
 use Rattle.vkb_tool.specs.declared.status.Status.TheVariants.{Refused, Usage}
 use Rattle.vkb_tool.specs.declared.words.Request.{Request}
-use Rattle.vkb_tool.specs.declared.words.Request.TheVariants.{Check}
-use Rattle.vkb_tool.specs.Fault.{Fault, InDocument, NotBuilt, TooManyNames}
+use Rattle.vkb_tool.specs.declared.words.Request.TheVariants.{Check, Tag}
+use Rattle.vkb_tool.specs.Fault.{Fault, BadTag, InDocument, NoNumber, NotBuilt, TooManyNames}
 use Rattle.vkb_tool.specs.Outcome.{AreBuilt, Effect, IsFaultIn, IsFirstUnbuilt, Outcome, checked, is_unbuilt, misplaced, most_text, refused, status_of, writes_alone}
 use Rattle.vkb_tool.specs.Report.{fault_line, report_of, usage_line}
+use Rattle.vkb_tool.specs.Tags.{read_fault}
 use Rattle.vkb_tool.specs.Words.{Spells}
 use Rattle.vkb_tool.proofs.AgreementLemmas.{OneWalk, never_unbuilt}
 use Rattle.vkb_tool.proofs.EveryRequest.{every_request}
 use Rattle.vkb_tool.proofs.EveryVerdict.{every_verdict}
+use Rattle.vkb_tool.proofs.TagsLemmas.{HavePages, tags_come_to}
 use Rattle.vkb_tool.proofs.OutcomeLemmas.{HaveSources, IsWalked, fault_there, faultless}
 
 -- the first line that isn't built, behind one that is
@@ -45,6 +47,8 @@ unbuilt_or_built (first ∷ lines) =
 -- lines that are built, with few options, have no fault
 no_fault : (always : List (List ℕ)) (lines : List FlatLine) → AreBuilt lines → length (free_names always lines) ≤ most_options → (fault : Fault) → ¬ IsFaultIn always lines fault
 no_fault always lines built few (InDocument fault) is = is
+no_fault always lines built few (BadTag file number) is = is
+no_fault always lines built few (NoNumber needed left) is = is
 no_fault always lines built few (NotBuilt file number) (line, first, file_is, number_is) = never_unbuilt lines line built first
 no_fault always lines built few (TooManyNames count) (all, many) = let counted = many.counted in let more = many.many in omega arith
 
@@ -59,7 +63,7 @@ fault_or_none always lines =
       ]
     ]
 
-module _ (have : HaveSources) (one_walk : OneWalk) (words : List (List ℕ)) (files : Files) where
+module _ (have : HaveSources) (one_walk : OneWalk) (pages : HavePages) (words : List (List ℕ)) (files : Files) where
   -- a document whose walk has no fault comes to something
   walked_comes : (registry : Option (List ℕ)) (root api : List ℕ) (always : List (List ℕ)) (lines : List FlatLine) → Spells words (Check registry root api always)
       → IsDocument files most_text root lines → IsWalked files root lines → (effect : Effect) × Outcome words files effect
@@ -91,6 +95,7 @@ module _ (have : HaveSources) (one_walk : OneWalk) (words : List (List ℕ)) (fi
   request_comes (Check registry root api always) spelled =
       let found = have files in
       walk_comes registry root api always found.0 (first_fault found.0 most_text [] (walk found.0 root)) spelled found.1 refl
+  request_comes (Tag first names) spelled = tags_come_to pages words files first names (read_fault files most_text names) spelled refl
 
   -- the words and the files come to something
   pub comes_to : (effect : Effect) × Outcome words files effect

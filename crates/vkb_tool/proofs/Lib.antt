@@ -1,8 +1,12 @@
 pub mod WordsLemmas
+pub mod TagWordsLemmas
 pub mod PutLemmas
 pub mod ReportLemmas
 pub mod OutcomeLemmas
 pub mod CheckLemmas
+pub mod ReadingLemmas
+pub mod MalformedLemmas
+pub mod TagsLemmas
 pub mod EndingsLemmas
 pub mod AgreementLemmas
 pub mod EveryRequest

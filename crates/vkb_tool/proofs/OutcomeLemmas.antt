@@ -9,7 +9,7 @@ use Rattle.doc_tree.specs.Walk.{IsDocument, IsFaultOf, first_fault, taken, walk}
 use Rattle.vkb_tool.specs.declared.status.Status.TheVariants.{Refused}
 use Rattle.vkb_tool.specs.declared.words.Request.TheVariants.{Check}
 use Rattle.vkb_tool.specs.Check.{TellsOf}
-use Rattle.vkb_tool.specs.Fault.{Fault, InDocument, NotBuilt, TooManyNames}
+use Rattle.vkb_tool.specs.Fault.{Fault, BadTag, InDocument, NoNumber, NotBuilt, TooManyNames}
 use Rattle.vkb_tool.specs.Outcome.{Effect, HasNoFault, IsCheckFault, IsFaultIn, Outcome, checked, most_text, refused, writes_alone}
 use Rattle.vkb_tool.specs.Report.{document_fault_line}
 use Rattle.vkb_tool.specs.Words.{Spells}
@@ -40,12 +40,16 @@ faultless files root always lines walked none (NotBuilt file number) (others, is
     none (NotBuilt file number) (subst (λ (ls : List FlatLine). IsFaultIn always ls (NotBuilt file number)) (same_lines files root lines others walked is) stands)
 faultless files root always lines walked none (TooManyNames count) (others, is, stands) =
     none (TooManyNames count) (subst (λ (ls : List FlatLine). IsFaultIn always ls (TooManyNames count)) (same_lines files root lines others walked is) stands)
+faultless files root always lines walked none (BadTag file number) is = is
+faultless files root always lines walked none (NoNumber needed left) is = is
 
 -- a fault in the lines of a document that was walked is one in what is asked
 pub fault_there : (files : Files) (root : List ℕ) (always : List (List ℕ)) (lines : List FlatLine) (fault : Fault) → IsDocument files most_text root lines → IsFaultIn always lines fault → IsCheckFault files root always fault
 fault_there files root always lines (InDocument fault) is stands = absurd stands
 fault_there files root always lines (NotBuilt file number) is stands = (lines, is, stands)
 fault_there files root always lines (TooManyNames count) is stands = (lines, is, stands)
+fault_there files root always lines (BadTag file number) is stands = absurd stands
+fault_there files root always lines (NoNumber needed left) is stands = absurd stands
 
 -- what is told of a document that was walked is what the words and the files come to
 pub told_outcome : HaveSources → (words : List (List ℕ)) (files : Files) (registry : Option (List ℕ)) (root api : List ℕ) (always : List (List ℕ)) (lines : List FlatLine) (effect : Effect)

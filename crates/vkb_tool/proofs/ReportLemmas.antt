@@ -1,5 +1,5 @@
--- The chosen options, one option on.
-use Rattle.std.proofs.Common.{◌≡◌, ℕ, ◌+◌, ◌<◌, Bool, true, false, cond, List, [], ◌∷◌, ◌++◌, length, take, get_or, refl, sym, ap, ◌∙◌, arith}
+-- The chosen options, one option on, and texts that are joined.
+use Rattle.std.proofs.Common.{◌≡◌, ℕ, ◌+◌, ◌<◌, Bool, true, false, cond, List, [], ◌∷◌, ◌++◌, length, take, get_or, refl, sym, ap, ◌∙◌, arith, append_assoc}
 use Rattle.std.proofs.lemmas.List.{length-take-le, take_more}
 use Rattle.doc_build.specs.Choices.{chosen_of}
 
@@ -18,3 +18,10 @@ chosen_of_more options choice k same below =
     let within : k < length options = omega arith in
     let fits : length (take k options) ≡ length (take k choice) = length-take-le k options (omega arith) ∙ sym (length-take-le k choice (omega arith)) in
     rw (take_more options k [] within, take_more choice k false below) (chosen_of-push (take k options) (take k choice) (get_or options k []) (get_or choice k false) fits)
+
+-- five texts that are joined from the left are joined from the right
+pub regrouped : (first second third fourth fifth : List ℕ) → (((first ++ second) ++ third) ++ fourth) ++ fifth ≡ first ++ (second ++ (third ++ (fourth ++ fifth)))
+regrouped first second third fourth fifth =
+    append_assoc ((first ++ second) ++ third) fourth fifth
+    ∙ append_assoc (first ++ second) third (fourth ++ fifth)
+    ∙ append_assoc first second (third ++ (fourth ++ fifth))

@@ -4,9 +4,13 @@ use Rattle.doc_tree.specs.Fault.{Fault as DocumentFault}
 
 -- Lines count from 1.
 pub data Fault : Type 0 where
-  -- a fault of the walk over a document
+  -- a fault of the walk over a document, or of a file that is read to be tagged
   InDocument : (fault : DocumentFault) → Fault
   -- a line of the file has a form that isn't built yet
   NotBuilt : (file : List ℕ) (line : ℕ) → Fault
   -- so many options, more than 12, are left to choose
   TooManyNames : (count : ℕ) → Fault
+  -- a line of the file has a malformed tag
+  BadTag : (file : List ℕ) (line : ℕ) → Fault
+  -- so many statements want a tag, and only so many numbers are left
+  NoNumber : (needed left : ℕ) → Fault

@@ -2,8 +2,10 @@ pub mod Words
 pub mod Reading
 pub mod Fault
 pub mod Report
+pub mod Tags
 pub mod Outcome
 pub mod Endings
 pub mod Answer
 pub mod Check
+pub mod Tagging
 pub mod Status

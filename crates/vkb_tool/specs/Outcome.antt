@@ -1,5 +1,5 @@
 -- What a run of the program comes to, of the words and the files.
-use Rattle.std.specs.Prelude.{◌≡◌, ℕ, ◌<◌, Bool, true, false, Option, Some, slice_get, List, [], length, All}
+use Rattle.std.specs.Prelude.{◌≡◌, ℕ, ◌<◌, Bool, true, false, Option, Some, None, slice_get, List, [], length, All}
 use Rattle.vkb_outside.specs.Shelf.{Files}
 use Rattle.doc_cond.specs.declared.LineKind.{LineKind}
 use Rattle.doc_cond.specs.declared.LineKind.TheVariants.{Refpage}
@@ -11,13 +11,17 @@ use Rattle.lift_check.specs.declared.Verdict.{Verdict}
 use Rattle.lift_check.specs.declared.Verdict.TheVariants.{Yes, No}
 use Rattle.lift_check.specs.Choices.{most_options}
 use Rattle.lift_check.specs.Verdict.{IsVerdict}
+use Rattle.vu_tags.specs.Statements.{needed_of}
+use Rattle.vu_tags.specs.Tagged.{IsTagFault, Names, TellsPages, tagged_of}
+use Rattle.vu_tags.specs.declared.TagFault.TheVariants as tags
 use Rattle.vkb_tool.specs.declared.words.Request.{Request}
-use Rattle.vkb_tool.specs.declared.words.Request.TheVariants.{Check}
+use Rattle.vkb_tool.specs.declared.words.Request.TheVariants.{Check, Tag}
 use Rattle.vkb_tool.specs.declared.status.Status.{Status}
 use Rattle.vkb_tool.specs.declared.status.Status.TheVariants.{Done, Broken, Usage, Refused}
-use Rattle.vkb_tool.specs.Fault.{Fault, InDocument, NotBuilt, TooManyNames}
+use Rattle.vkb_tool.specs.Fault.{Fault, BadTag, InDocument, NoNumber, NotBuilt, TooManyNames}
 use Rattle.vkb_tool.specs.Words.{Spells, IsMisplaced}
-use Rattle.vkb_tool.specs.Report.{usage_line, fault_line, report_of}
+use Rattle.vkb_tool.specs.Tags.{changed, read_fault, texts_of}
+use Rattle.vkb_tool.specs.Report.{usage_line, fault_line, report_of, tagged_line}
 
 -- how many bytes all texts of a call may have
 abbrev pub most_text : ℕ
@@ -50,16 +54,33 @@ abbrev pub IsFaultIn : List (List ℕ) → List FlatLine → Fault → Type 0
 IsFaultIn always lines (InDocument fault) = ⊥
 IsFaultIn always lines (NotBuilt file number) = (line : FlatLine) × IsFirstUnbuilt lines line × (file ≡ line.file) × (number ≡ line.number)
 IsFaultIn always lines (TooManyNames count) = AreBuilt lines × AreTooMany (free_names always lines) count
+IsFaultIn always lines (BadTag file number) = ⊥
+IsFaultIn always lines (NoNumber needed left) = ⊥
 
 -- a fault of the document of a root, where some names are always set: those of the walk go first
 abbrev pub IsCheckFault : Files → List ℕ → List (List ℕ) → Fault → Type 0
 IsCheckFault files root always (InDocument fault) = IsFaultOf files most_text root fault
 IsCheckFault files root always (NotBuilt file number) = (lines : List FlatLine) × IsDocument files most_text root lines × IsFaultIn always lines (NotBuilt file number)
 IsCheckFault files root always (TooManyNames count) = (lines : List FlatLine) × IsDocument files most_text root lines × IsFaultIn always lines (TooManyNames count)
+IsCheckFault files root always (BadTag file number) = ⊥
+IsCheckFault files root always (NoNumber needed left) = ⊥
+
+-- the files of a request to tag are there, and not too long
+abbrev pub AreRead : Files → List (List ℕ) → Type 0
+AreRead files names = read_fault files most_text names ≡ None
+
+-- a fault of a request to tag: the first of the files that are read in order, or else the first of their tags
+abbrev pub IsTagsFault : Files → ℕ → List (List ℕ) → Fault → Type 0
+IsTagsFault files first names (InDocument fault) = read_fault files most_text names ≡ Some fault
+IsTagsFault files first names (NotBuilt file number) = ⊥
+IsTagsFault files first names (TooManyNames count) = ⊥
+IsTagsFault files first names (BadTag file line) = AreRead files names × ((place : ℕ) × (slice_get names place ≡ Some file) × IsTagFault first (texts_of files names) (tags.BadTag place line))
+IsTagsFault files first names (NoNumber needed left) = AreRead files names × IsTagFault first (texts_of files names) (tags.NoNumber needed left)
 
 -- the first named fault that stands in what a request asks of the files
 abbrev pub IsFirstFault : Request → Files → Fault → Type 0
 IsFirstFault (Check registry root api always) files fault = IsCheckFault files root always fault
+IsFirstFault (Tag first names) files fault = IsTagsFault files first names fault
 
 -- no named fault stands in what a request asks of the files
 abbrev pub HasNoFault : Request → Files → Type 0
@@ -84,6 +105,10 @@ pub record Effect : Type 0 where
 abbrev pub writes_alone : Status → List ℕ → Effect
 writes_alone status output = record { status = status; output = output; puts = [] }
 
+-- what new tags for the texts of files leave, by the names of pages: how many there are, and the files that change
+abbrev pub puts_tags : Names → ℕ → List (List ℕ) → List (List ℕ) → Effect
+puts_tags pages first names texts = record { status = Done; output = tagged_line (needed_of texts); puts = changed names texts (tagged_of pages first texts) }
+
 -- What the words and the files come to. Only the choice that a `no` names is left open, and with it the id and the count there.
 pub data Outcome (words : List (List ℕ)) (files : Files) : Effect → Type 0 where
   -- the words are no request
@@ -95,6 +120,9 @@ pub data Outcome (words : List (List ℕ)) (files : Files) : Effect → Type 0 w
       → Spells words (Check registry root api always) → HasNoFault (Check registry root api always) files
       → IsDocument files most_text root lines → IsVerdict (bare_setting always lines) lines verdict
       → Outcome words files (writes_alone (status_of verdict) (report_of lines (bare_setting always lines).options verdict))
+  -- new tags for the statements of files without a fault
+  tagged : (first : ℕ) (names : List (List ℕ)) (pages : Names) → Spells words (Tag first names) → HasNoFault (Tag first names) files
+      → TellsPages pages → Outcome words files (puts_tags pages first names (texts_of files names))
 
 -- the report that this link of a document is the first that some permitted choice breaks, with some such choice
 pub record TellsPlace (always : List (List ℕ)) (lines : List FlatLine) (place : Place) (output : List ℕ) : Type 0 where

@@ -1,8 +1,9 @@
 -- What is found among the words while they are read: for private contracts alone. No public contract names it.
 use Rattle.std.specs.Prelude.{◌≡◌, ◌≢◌, ℕ, ◌-◌, ◌≤◌, List, ◌++◌, length, take, map, slice_get, Some, All, ⊤}
+use Rattle.vkb_formula.specs.Names.{AreDifferent}
 use Rattle.vkb_tool.specs.declared.words.WordFault.{WordFault}
 use Rattle.vkb_tool.specs.declared.words.WordFault.TheVariants.{Usage, Memory}
-use Rattle.vkb_tool.specs.Words.{IsAttribute, IsFileName, attribute_word}
+use Rattle.vkb_tool.specs.Words.{AreFileNames, IsAttribute, IsFileName, WritesFirst, attribute_word}
 
 -- a file's name stands at an index, from 0
 abbrev pub IsNamed : List (List ℕ) → ℕ → List ℕ → Type 0
@@ -25,3 +26,30 @@ pub record IsNoAttribute (words : List (List ℕ)) (position : ℕ) : Type 0 whe
 abbrev pub IsAttributeFault : List (List ℕ) → WordFault → Type 0
 IsAttributeFault words (Usage position) = IsNoAttribute words position
 IsAttributeFault words Memory = ⊤
+
+-- a word from which tags may be numbered stands at an index, from 0
+abbrev pub IsNumbered : List (List ℕ) → ℕ → ℕ → Type 0
+IsNumbered words at first = (word : List ℕ) × (slice_get words at ≡ Some word) × WritesFirst word first
+
+-- a file's name stands at an index, from 0, that isn't among others
+abbrev pub IsNew : List (List ℕ) → List (List ℕ) → ℕ → List ℕ → Type 0
+IsNew words others at name = IsNamed words at name × ((place : ℕ) → slice_get others place ≢ Some name)
+
+-- the words are the first two and then the names of these files
+pub record NamesFiles (words names : List (List ℕ)) : Type 0 where
+  pub names_are : AreFileNames names
+  pub words_are : words ≡ take 2 words ++ names
+
+-- the word at a position, from 1, is the first from the third on that isn't another file's name
+pub record IsNoFile (words : List (List ℕ)) (position : ℕ) : Type 0 where
+  pub names : List (List ℕ)
+  pub named : All IsFileName names
+  pub different : AreDifferent names
+  pub before : take (position - 1) words ≡ take 2 words ++ names
+  pub behind : 3 ≤ position
+  pub within : position ≤ length words
+  pub here : (name : List ℕ) → ¬ IsNew words names (position - 1) name
+
+abbrev pub IsFileFault : List (List ℕ) → WordFault → Type 0
+IsFileFault words (Usage position) = IsNoFile words position
+IsFileFault words Memory = ⊤

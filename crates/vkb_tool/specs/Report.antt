@@ -7,7 +7,7 @@ use Rattle.doc_build.specs.declared.Place.{Place}
 use Rattle.doc_build.specs.Choices.{chosen_of}
 use Rattle.lift_check.specs.declared.Verdict.{Verdict}
 use Rattle.lift_check.specs.declared.Verdict.TheVariants.{Yes, No}
-use Rattle.vkb_tool.specs.Fault.{Fault, InDocument, NotBuilt, TooManyNames}
+use Rattle.vkb_tool.specs.Fault.{Fault, BadTag, InDocument, NoNumber, NotBuilt, TooManyNames}
 
 -- what a line of a report ends in
 abbrev pub line_feed : List ℕ
@@ -47,6 +47,10 @@ abbrev pub report_of : List FlatLine → List (List ℕ) → Verdict → List �
 report_of lines options (Yes links) = codes "yes " ++ decimal links ++ line_feed
 report_of lines options (No place id choice count) = broken_lines lines place id count ++ flat_map with_line (chosen_of options choice)
 
+-- the report of new tags: how many there are
+abbrev pub tagged_line : ℕ → List ℕ
+tagged_line count = codes "tagged " ++ decimal count ++ line_feed
+
 -- the line of a fault of a file, by the code of the fault
 abbrev pub file_fault_line : List ℕ → List ℕ → List ℕ
 file_fault_line code file = codes "refused " ++ code ++ codes " " ++ file ++ line_feed
@@ -71,3 +75,5 @@ abbrev pub fault_line : Fault → List ℕ
 fault_line (InDocument fault) = document_fault_line fault
 fault_line (NotBuilt file line) = line_fault_line (codes "NotBuilt") file line
 fault_line (TooManyNames count) = codes "refused TooManyNames " ++ decimal count ++ line_feed
+fault_line (BadTag file line) = line_fault_line (codes "BadTag") file line
+fault_line (NoNumber needed left) = codes "refused NoNumber " ++ decimal needed ++ codes " " ++ decimal left ++ line_feed

@@ -2,9 +2,11 @@
 use Rattle.std.specs.Prelude.{◌≡◌, ◌≢◌, ℕ, ◌+◌, ◌-◌, ◌≤◌, List, [], ◌∷◌, ◌++◌, length, take, map, codes, Option, Some, None, Vec, ⊤, All, IsTrue}
 use Rattle.std.specs.declared.alloc.Global.{Global}
 use Rattle.std.specs.Str.{IsUtf8}
+use Rattle.vkb_bytes.specs.Numbers.{numeral_of}
+use Rattle.vkb_formula.specs.Names.{AreDifferent}
 use Rattle.doc_cond.specs.Lines.{is_name_byte, is_run}
 use Rattle.vkb_tool.specs.declared.words.Request.{Request}
-use Rattle.vkb_tool.specs.declared.words.Request.TheVariants.{Check}
+use Rattle.vkb_tool.specs.declared.words.Request.TheVariants.{Check, Tag}
 use Rattle.vkb_tool.specs.declared.words.WordFault.{WordFault}
 use Rattle.vkb_tool.specs.declared.words.WordFault.TheVariants.{Usage, Memory}
 
@@ -31,10 +33,24 @@ abbrev pub IsApiOf : Option (List ℕ) → List ℕ → Type 0
 IsApiOf None api = api ≡ codes "-"
 IsApiOf (Some name) api = ⊥
 
+-- the first number of new tags: one to five digits, from 1 to 99999
+pub record WritesFirst (word : List ℕ) (first : ℕ) : Type 0 where
+  pub short : length word ≤ 5
+  pub written : numeral_of 10 word ≡ Some first
+  pub from_one : 1 ≤ first
+  pub most : first ≤ 99999
+
+-- the names of files, one or more, of which no two are the same
+pub record AreFileNames (names : List (List ℕ)) : Type 0 where
+  pub some : names ≢ []
+  pub named : All IsFileName names
+  pub different : AreDifferent names
+
 -- the words that ask for a request
 abbrev pub Spells : List (List ℕ) → Request → Type 0
 Spells words (Check registry root api always) = IsApiOf registry api × IsFileName root × All IsAttribute always
     × (words ≡ codes "check" ∷ registry_word registry ∷ root ∷ api ∷ map attribute_word always)
+Spells words (Tag first files) = (word : List ℕ) × WritesFirst word first × AreFileNames files × (words ≡ codes "tag" ∷ word ∷ files)
 
 -- some request begins with these words
 abbrev pub IsFront : List (List ℕ) → Type 0

@@ -1,13 +1,18 @@
-ghost use Rattle.std.specs.Prelude.{◌≡◌, ◌^◌, ◌<◌, [], length, map, IfOk, IfSome};
+ghost use Rattle.std.specs.Prelude.{◌≡◌, ◌^◌, ◌<◌, [], length, map, Some, IfErr, IfOk, IfSome};
+ghost use Rattle.doc_tree.specs.Answer.{told_of};
+ghost use Rattle.doc_tree.specs.Fault.{Fault as DocumentFault};
 ghost use Rattle.vkb_tool.specs.Answer.{AnswersWords, AreHeld, CountsReading, Delivers, IsAskedFor, PutsAll, effect_of, put_of};
+ghost use Rattle.vkb_tool.specs.Check.{IsTroubleOf};
 ghost use Rattle.vkb_tool.specs.Outcome.{Outcome, writes_alone};
-ghost use Rattle.vkb_tool.specs.Report.{usage_line};
+ghost use Rattle.vkb_tool.specs.Report.{document_fault_line, usage_line};
 ghost use Rattle.vkb_tool.specs.Words.{items_of};
 
 use crate::check::check;
-use crate::report::usage_text;
+use crate::report::{document_fault_text, usage_text};
+use crate::tags::tag;
 use crate::words::{Request, WordFault, read_words};
 use crate::{Memory, Status};
+use doc_tree::DocFault;
 use std::alloc::Global;
 use vkb_bytes::{Bytes, Listed, Text};
 use vkb_outside::{PutTrouble, Shelf, Sink};
@@ -81,6 +86,7 @@ pub fn answer_words<S: Shelf>(
                 always,
             },
         ) => check(alloc, shelf, root.as_str(), always.as_slice()),
+        Ok(Request::Tag { first, files }) => tag(alloc, shelf, first, files.as_slice()),
         Err(WordFault::Usage { position }) => Ok(misplaced(alloc, position)?),
         Err(WordFault::Memory) => Err(Trouble::NoMemory),
     }
@@ -92,6 +98,17 @@ fn misplaced(alloc: Global, position: u32) -> Result<Answer, Memory>
 {
     let output = usage_text(alloc, position)?;
     Ok(written(alloc, Status::Usage, output))
+}
+
+/// The answer to a request in whose files a fault stands. A failed read and want of memory have none.
+pub fn refuse(alloc: Global, fault: &DocFault) -> Result<Answer, Trouble>
+    ensures told { IfOk result (λ answer. (named : DocumentFault) × (told_of fault.now ≡ Some named) × (effect_of answer ≡ writes_alone Status.Refused (document_fault_line named))) }
+    ensures status { IfOk result (λ answer. answer.status ≡ Status.Refused) }
+    ensures unput { IfOk result (λ answer. answer.puts ≡ []) }
+    ensures untold { IfErr result (IsTroubleOf fault.now) }
+{
+    let output = document_fault_text(alloc, fault)?;
+    Ok(written(alloc, Status::Refused, output))
 }
 
 /// Puts the files of an answer and then writes its output, and gives its status where that is done. It takes memory before the

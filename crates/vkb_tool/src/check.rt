@@ -1,20 +1,17 @@
 //! The command `check`: a verdict on the links of a document.
-ghost use Rattle.std.specs.Prelude.{◌≡◌, List, ℕ, [], Some, Option, position, IfErr, IfOk, IfSome};
-ghost use Rattle.doc_tree.specs.Answer.{told_of};
-ghost use Rattle.doc_tree.specs.Fault.{Fault as DocumentFault};
+ghost use Rattle.std.specs.Prelude.{◌≡◌, List, ℕ, [], Option, position, IfOk, IfSome};
 ghost use Rattle.doc_tree.specs.Loaded.{IsLoaded, flat_of};
 ghost use Rattle.vkb_tool.specs.Answer.{CountsReading, IsRequestStatus, effect_of};
-ghost use Rattle.vkb_tool.specs.Check.{IsTroubleOf, TellsOf};
+ghost use Rattle.vkb_tool.specs.Check.{TellsOf};
 ghost use Rattle.vkb_tool.specs.Outcome.{Outcome, is_unbuilt, status_of, writes_alone};
-ghost use Rattle.vkb_tool.specs.Report.{document_fault_line};
 ghost use Rattle.vkb_tool.specs.Words.{Spells};
 
-use crate::answer::{Answer, Trouble, written};
-use crate::report::{document_fault_text, not_built_text, report, too_many_text};
+use crate::answer::{Answer, Trouble, refuse, written};
+use crate::report::{not_built_text, report, too_many_text};
 use crate::{Memory, Request, Status};
 use doc_build::marks_in_lines;
 use doc_cond::LineKind;
-use doc_tree::{DocFault, Document, files_have_sources, load};
+use doc_tree::{Document, files_have_sources, load};
 use lift_check::{Verdict, read_options, try_choices};
 use std::alloc::Global;
 use vkb_bytes::Bytes;
@@ -94,15 +91,4 @@ fn status_by(verdict: &Verdict) -> Status
         Verdict::Yes { .. } => Status::Done,
         Verdict::No { .. } => Status::Broken,
     }
-}
-
-/// The answer to a request in whose document a fault stands. A failed read and want of memory have none.
-fn refuse(alloc: Global, fault: &DocFault) -> Result<Answer, Trouble>
-    ensures told { IfOk result (λ answer. (named : DocumentFault) × (told_of fault.now ≡ Some named) × (effect_of answer ≡ writes_alone Status.Refused (document_fault_line named))) }
-    ensures status { IfOk result (λ answer. answer.status ≡ Status.Refused) }
-    ensures unput { IfOk result (λ answer. answer.puts ≡ []) }
-    ensures untold { IfErr result (IsTroubleOf fault.now) }
-{
-    let output = document_fault_text(alloc, fault)?;
-    Ok(written(alloc, Status::Refused, output))
 }

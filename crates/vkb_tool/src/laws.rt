@@ -10,6 +10,7 @@ ghost use Rattle.vkb_tool.specs.declared.status.Status.TheVariants.{Broken};
 use crate::Request;
 use doc_tree::{files_have_sources, one_walk};
 use lift_check::one_verdict;
+use vu_tags::pages_are_one;
 
 /// Words ask for one request at most, and where they ask for none, one position at most is that of the first that has no place.
 pub fn one_reading()
@@ -37,6 +38,7 @@ pub fn one_outcome()
 {
     one_walk();
     one_verdict();
+    pages_are_one();
 }
 
 /// Whatever the words and the files are, they come to an outcome.
@@ -45,4 +47,5 @@ pub fn each_has_an_outcome()
 {
     files_have_sources();
     one_walk();
+    pages_are_one();
 }

@@ -1,4 +1,5 @@
-//! What a run of `vkbuild` does: it reads the words of a request, reads the files that are asked for, and answers with a report.
+//! What a run of `vkbuild` does: it reads the words of a request, reads the files that are asked for, puts those that change, and answers
+//! with a report.
 #![tactic(auto)]
 
 mod answer;
@@ -7,6 +8,7 @@ mod laws;
 mod program;
 mod report;
 mod status;
+mod tags;
 mod words;
 
 pub use laws::{each_has_an_outcome, one_fault, one_outcome, one_reading};

@@ -7,7 +7,8 @@ use crate::answer::{Trouble, answer_words, deliver};
 use std::alloc::Global;
 use vkb_outside::{Shelf, Sink};
 
-/// Carries out the request of the words: reads files from the shelf, and writes the report to the sink by one write.
+/// Carries out the request of the words: reads files from the shelf, puts those that it changes, and then writes the report to the sink
+/// by one write.
 ///
 /// The words don't include the program's own name. Whatever the answer, the contract says what stands on the shelf and in the sink.
 pub fn run<S: Shelf, K: Sink>(
@@ -23,7 +24,7 @@ pub fn run<S: Shelf, K: Sink>(
         (record { files = S.holds shelf.old; written = K.written out.old; read_faults = S.read_faults shelf.old; put_faults = S.put_faults shelf.old; write_faults = K.faults out.old })
         (record { files = S.holds shelf.new; written = K.written out.new; read_faults = S.read_faults shelf.new; put_faults = S.put_faults shelf.new; write_faults = K.faults out.new })) }
 
-    // Where nothing outside failed and no fault stands in what is asked, the answer is yes or no, or there was no memory.
+    // Where nothing outside failed and no fault stands in what is asked, it is carried out as `Done` or `Broken`, or there was no memory.
     ensures complete { IfSome (S.holds shelf.old) (λ files. IsComplete (items_of words.now) files result
         (record { files = S.holds shelf.old; written = K.written out.old; read_faults = S.read_faults shelf.old; put_faults = S.put_faults shelf.old; write_faults = K.faults out.old })
         (record { files = S.holds shelf.new; written = K.written out.new; read_faults = S.read_faults shelf.new; put_faults = S.put_faults shelf.new; write_faults = K.faults out.new })) }

@@ -6,8 +6,8 @@ ghost use Rattle.doc_tree.specs.Flat.{FlatLine};
 ghost use Rattle.doc_tree.specs.Loaded.{flat_of};
 ghost use Rattle.doc_build.specs.Choices.{chosen_of};
 ghost use Rattle.vkb_tool.specs.Check.{AreFilesThere, IsTroubleOf, NamesWithin};
-ghost use Rattle.vkb_tool.specs.Fault.{NotBuilt, TooManyNames};
-ghost use Rattle.vkb_tool.specs.Report.{broken_lines, document_fault_line, fault_line, file_fault_line, line_fault_line, place_text, report_of, spot_in, usage_line, with_line};
+ghost use Rattle.vkb_tool.specs.Fault.{BadTag, NoNumber, NotBuilt, TooManyNames};
+ghost use Rattle.vkb_tool.specs.Report.{broken_lines, document_fault_line, fault_line, file_fault_line, line_fault_line, place_text, report_of, spot_in, tagged_line, usage_line, with_line};
 
 use crate::Memory;
 use crate::answer::Trouble;
@@ -70,6 +70,27 @@ pub fn too_many_text(alloc: Global, count: u32) -> Result<Vec<u8>, Memory>
     ensures { IfOk result (λ text. text.items ≡ fault_line (TooManyNames count)) }
 {
     Ok(format!(in alloc; "refused TooManyNames {count}\n")?.into_bytes())
+}
+
+/// The report of so many new tags.
+pub fn tagged_text(alloc: Global, count: u32) -> Result<Vec<u8>, Memory>
+    ensures { IfOk result (λ text. text.items ≡ tagged_line count) }
+{
+    Ok(format!(in alloc; "tagged {count}\n")?.into_bytes())
+}
+
+/// The line for a malformed tag in a line of a file.
+pub fn bad_tag_text(alloc: Global, file: &str, line: u32) -> Result<Vec<u8>, Memory>
+    ensures { IfOk result (λ text. text.items ≡ fault_line (BadTag file.now line)) }
+{
+    line_fault_text(alloc, b"BadTag", file.as_bytes(), line)
+}
+
+/// The line for statements that need more numbers than are left.
+pub fn no_number_text(alloc: Global, needed: u32, left: u32) -> Result<Vec<u8>, Memory>
+    ensures { IfOk result (λ text. text.items ≡ fault_line (NoNumber needed left)) }
+{
+    Ok(format!(in alloc; "refused NoNumber {needed} {left}\n")?.into_bytes())
 }
 
 /// The line for a fault of a file, by its code.

@@ -1,4 +1,5 @@
 mod chapters;
+mod tags;
 
 use super::*;
 use std::alloc::{AllocError, Global};
@@ -252,19 +253,33 @@ fn a_name_is_text_and_some(rt: HostRuntime) -> Result<(), Fail> {
     }
     let words = words_of(alloc, "check - é.adoc - +A-1 +_")?;
     assert!(rt; words.len() < 100);
-    let Request::Check {
-        registry,
-        root,
-        api,
-        always,
-    } = read_words(alloc, &words)?;
-    assert!(rt; registry.is_none());
-    assert_eq!(rt; root.as_str(), "é.adoc");
-    assert_eq!(rt; api.as_slice(), b"-".as_slice());
-    assert_eq!(rt; always.as_slice().len(), 2);
-    assert_eq!(rt; always.as_slice()[0].as_slice(), b"A-1".as_slice());
-    assert_eq!(rt; always.as_slice()[1].as_slice(), b"_".as_slice());
+    checks_two(&rt, read_words(alloc, &words)?);
     Ok(())
+}
+
+/// Asserts that a request is a check of `é.adoc` where `A-1` and `_` are always set.
+fn checks_two(rt: &impl Abort, request: Request) {
+    match request {
+        Request::Check {
+            registry,
+            root,
+            api,
+            always,
+        } => {
+            assert!(rt; registry.is_none());
+            assert_eq!(rt; root.as_str(), "é.adoc");
+            assert_eq!(rt; api.as_slice(), b"-".as_slice());
+            assert_eq!(rt; always.as_slice().len(), 2);
+            assert_eq!(rt; always.as_slice()[0].as_slice(), b"A-1".as_slice());
+            assert_eq!(rt; always.as_slice()[1].as_slice(), b"_".as_slice());
+        }
+        Request::Tag { first, files } => {
+            panic!(rt;
+                "a request to tag {} files from {first} on",
+                files.as_slice().len()
+            );
+        }
+    }
 }
 
 #[test]

@@ -1,13 +1,17 @@
-ghost use Rattle.std.specs.Prelude.{◌≡◌, ◌≢◌, ℕ, ◌+◌, ◌^◌, ◌<◌, ◌≤◌, ◌↔◌, Some, length, slice_get, IsTrue, List, IfSome, IfNone, IfOk, IfErr};
+ghost use Rattle.std.specs.Prelude.{◌≡◌, ℕ, ◌^◌, ◌<◌, ◌↔◌, length, slice_get, IsTrue, IfSome, IfNone, IfOk, IfErr, List, Some};
 ghost use Rattle.std.specs.Option.{option_copied};
-ghost use Rattle.vkb_tool.specs.Reading.{IsAttributeFault, IsNamed, SetsAttributes};
-ghost use Rattle.vkb_tool.specs.Words.{IsAttribute, IsWordFault, Spells, attribute_word, items_of};
+ghost use Rattle.vkb_tool.specs.Reading.{IsNamed};
+ghost use Rattle.vkb_tool.specs.Words.{IsWordFault, Spells, items_of};
 
-use doc_cond::is_name;
+mod check;
+mod tag;
+
+use check::read_check;
 use std::alloc::{AllocError, AllocFailed, Global};
 use std::str;
+use tag::read_tag;
 use thiserror::Error;
-use vkb_bytes::{Bytes, Listed, Text};
+use vkb_bytes::{Bytes, Listed, Memory, Text};
 
 /// What the words ask for.
 #[derive(Debug, Drop)]
@@ -19,6 +23,11 @@ pub enum Request {
         root: Text,
         api: Bytes,
         always: Listed<Bytes>,
+    },
+    /// New tags, numbered from `first` on, for the statements of these files that have none.
+    Tag {
+        first: u32,
+        files: Listed<Text>,
     },
 }
 
@@ -54,64 +63,34 @@ impl<T: Drop> From<AllocFailed<T>> for WordFault {
     }
 }
 
-/// Reads the words of a request: `check - ROOT -`, where ROOT is a file's name, and then any number of `+ATTR`, where ATTR is
-/// one or more letters, digits, `_` and `-`.
+impl From<Memory> for WordFault {
+    ghost use Rattle.std.specs.Prelude.{◌≡◌};
+    ghost use Rattle.vkb_tool.specs.declared.words.WordFault.TheVariants.{Memory as NoMemory};
+
+    ghost from_gives = { λ _ fault. fault ≡ NoMemory };
+
+    fn from(_: Memory) -> WordFault {
+        WordFault::Memory
+    }
+}
+
+/// Reads the words of a request, by the first of them:
+///
+/// - `check - ROOT -`, where ROOT is a file's name, and then any number of `+ATTR`, where ATTR is one or more letters, digits, `_`
+///   and `-`;
+/// - `tag FIRST` and one or more FILE, where FIRST is one to five digits, from 1 to 99999, and each FILE is another file's name.
 pub fn read_words(alloc: Global, words: &[Vec<u8>]) -> Result<Request, WordFault>
     requires { length words.now < 2 ^ 32 }
     ensures request { IfOk result (Spells (items_of words.now)) }
     ensures misplaced { IfErr result (IsWordFault (items_of words.now)) }
 {
-    if !has_word(words, 0, b"check") {
-        return Err(WordFault::Usage { position: 1 });
+    if has_word(words, 0, b"check") {
+        return read_check(alloc, words);
     }
-    if !has_word(words, 1, b"-") {
-        return Err(WordFault::Usage { position: 2 });
+    if has_word(words, 0, b"tag") {
+        return read_tag(alloc, words);
     }
-    let Some(root) = file_name(words, 2) else {
-        return Err(WordFault::Usage { position: 3 });
-    };
-    if !has_word(words, 3, b"-") {
-        return Err(WordFault::Usage { position: 4 });
-    }
-    let always = attributes(alloc, words)?;
-    let root = String::from_str(alloc, root)?;
-    let api = Bytes::from_slice(alloc, b"-")?;
-    Ok(Request::Check {
-        registry: None,
-        root: Text::from_string(root),
-        api,
-        always: Listed::from_vec(always),
-    })
-}
-
-/// The names of the attributes that the words from the fifth on set.
-fn attributes(alloc: Global, words: &[Vec<u8>]) -> Result<Vec<Bytes>, WordFault>
-    requires few { length words.now < 2 ^ 32 }
-    requires enough { 4 ≤ length words.now }
-    ensures read { IfOk result (λ names. SetsAttributes (items_of words.now) names.items) }
-    ensures wrong { IfErr result (IsAttributeFault (items_of words.now)) }
-{
-    let mut names = Vec::new(alloc);
-    for at in 4..words.len() {
-        let Some(name) = attribute(words[at].as_slice()) else {
-            return Err(WordFault::Usage {
-                position: at as u32 + 1,
-            });
-        };
-        names.push(Bytes::from_slice(alloc, name)?)?;
-    }
-    Ok(names)
-}
-
-/// The name of the attribute that a word sets.
-fn attribute(word: &[u8]) -> Option<&[u8]>
-    ensures set { IfSome result (λ name. IsAttribute name.now × (word.now ≡ attribute_word name.now)) }
-    ensures none { IfNone result ((name : List ℕ) → IsAttribute name → word.now ≢ attribute_word name) }
-{
-    match word {
-        [b'+', name @ ..] if is_name(name) => Some(name),
-        _ => None,
-    }
+    Err(WordFault::Usage { position: 1 })
 }
 
 /// The word at an index, from 0.

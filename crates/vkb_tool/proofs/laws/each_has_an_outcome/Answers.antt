@@ -2,4 +2,4 @@ use Rattle.vkb_tool.proofs.ExistenceLemmas.{comes_to}
 use Rattle.vkb_tool.proofs.laws.each_has_an_outcome.Goals as goal
 
 pub returns : goal.returns
-returns c = comes_to c.files_have_sources.ensures c.one_walk.ensures
+returns c = comes_to c.files_have_sources.ensures c.one_walk.ensures c.pages_are_one.ensures.some

@@ -1,8 +1,0 @@
-use Rattle.reg_rows.proofs.WalkLoopLemmas.{number-below, number-each}
-use Rattle.reg_rows.proofs.circles.walk.numbers_below.Goals as goal
-
-pub loop-number-preserved : goal.loop-number-preserved
-loop-number-preserved c = record {
-  below = number-below c.loop-number.numbers.items _ _ c.in_ok-push.ensures.items c.loop-number.invariant.below;
-  each = number-each c.loop-number.numbers.items _ _ c.in_ok-push.ensures.items c.loop-number.invariant.each;
-}
