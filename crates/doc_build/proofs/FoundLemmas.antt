@@ -8,7 +8,8 @@ use Rattle.doc_marks.specs.declared.Mark.{Mark}
 use Rattle.doc_cond.specs.declared.LineKind.{LineKind}
 use Rattle.doc_cond.specs.declared.LineKind.TheVariants.{Plain, Comment, Other, Begin, OneLine, Close, Chapter, Api, Validity, Refpage}
 use Rattle.doc_tree.specs.Flat.{FlatLine, is_kept}
-use Rattle.doc_build.specs.Choices.{Choice, PageLine, bare_setting, names_set}
+use Rattle.reg_registry.specs.Rows.{Rows}
+use Rattle.doc_build.specs.Choices.{Choice, PageLine, names_set, registry_setting}
 use Rattle.doc_build.specs.Ids.{filled, id_at, page_set}
 use Rattle.doc_build.specs.Laws.{SetsNoPage, is_kept_at}
 use Rattle.doc_build.specs.Pieces.{Anchor, Link, Piece, all_links, all_pieces, anchor_at, anchors_of, link_at, links_of, marks_in, page_piece, pieces_among, pieces_at, pieces_of}
@@ -156,30 +157,30 @@ kept_places set kept front (line ∷ lines) is =
     let rest = kept_places set kept (front ++ is_kept set line ∷ []) lines more in
     All-cons (λ (p : ℕ × FlatLine). get_or kept p.0 false ≡ is_kept set p.1) (length front, line) (enumerate_from (length front + 1) lines) here (rw (longer front (is_kept set line)) at rest)
 
-pub kept_anchors : (always : List (List ℕ)) (lines : List FlatLine) (choice : Choice)
-    → anchors_of (pieces_of (bare_setting always lines) lines choice)
-    ≡ filter (λ anchor. is_kept_at (names_set (bare_setting always lines) choice) lines anchor.line) (anchors_of (all_pieces (bare_setting always lines) lines))
-kept_anchors always lines choice =
-    let set = names_set (bare_setting always lines) choice in
+pub kept_anchors : (always : List (List ℕ)) (r : Rows) (lines : List FlatLine) (choice : Choice)
+    → anchors_of (pieces_of (registry_setting always r) lines choice)
+    ≡ filter (λ anchor. is_kept_at (names_set (registry_setting always r) choice) lines anchor.line) (anchors_of (all_pieces (registry_setting always r) lines))
+kept_anchors always r lines choice =
+    let set = names_set (registry_setting always r) choice in
     found_kept (λ mark. mark.anchor) anchor_at (λ a. a.line) (λ piece mark. refl) (λ kind. []) set (is_kept_at set lines) (enumerate_from 0 lines) (kept_places set (map (is_kept set) lines) [] lines refl)
 
-pub kept_links : (always : List (List ℕ)) (lines : List FlatLine) (choice : Choice)
-    → links_of (pieces_of (bare_setting always lines) lines choice)
-    ≡ filter (λ link. is_kept_at (names_set (bare_setting always lines) choice) lines link.place.line) (all_links (bare_setting always lines) lines)
-kept_links always lines choice =
-    let set = names_set (bare_setting always lines) choice in
+pub kept_links : (always : List (List ℕ)) (r : Rows) (lines : List FlatLine) (choice : Choice)
+    → links_of (pieces_of (registry_setting always r) lines choice)
+    ≡ filter (λ link. is_kept_at (names_set (registry_setting always r) choice) lines link.place.line) (all_links (registry_setting always r) lines)
+kept_links always r lines choice =
+    let set = names_set (registry_setting always r) choice in
     found_kept (λ mark. not mark.anchor) link_at (λ l. l.place.line) (λ piece mark. refl) (λ kind. []) set (is_kept_at set lines) (enumerate_from 0 lines) (kept_places set (map (is_kept set) lines) [] lines refl)
 
 -- ---- the lines of all marks
 
-pub anchors_within : (always : List (List ℕ)) (lines : List FlatLine) → All (λ anchor. anchor.line < length lines) (anchors_of (all_pieces (bare_setting always lines) lines))
-anchors_within always lines =
-    All-weaker (λ (a : Anchor). a.line < 0 + length lines) (λ a. a.line < length lines) (λ a less. omega (arith, less)) (anchors_of (all_pieces (bare_setting always lines) lines))
+pub anchors_within : (always : List (List ℕ)) (r : Rows) (lines : List FlatLine) → All (λ anchor. anchor.line < length lines) (anchors_of (all_pieces (registry_setting always r) lines))
+anchors_within always r lines =
+    All-weaker (λ (a : Anchor). a.line < 0 + length lines) (λ a. a.line < length lines) (λ a less. omega (arith, less)) (anchors_of (all_pieces (registry_setting always r) lines))
     (found_within (λ mark. mark.anchor) anchor_at (λ a. a.line) (λ piece mark. refl) (λ kind. []) 0 lines)
 
-pub links_within : (always : List (List ℕ)) (lines : List FlatLine) → All (λ link. link.place.line < length lines) (all_links (bare_setting always lines) lines)
-links_within always lines =
-    All-weaker (λ (l : Link). l.place.line < 0 + length lines) (λ l. l.place.line < length lines) (λ l less. omega (arith, less)) (all_links (bare_setting always lines) lines)
+pub links_within : (always : List (List ℕ)) (r : Rows) (lines : List FlatLine) → All (λ link. link.place.line < length lines) (all_links (registry_setting always r) lines)
+links_within always r lines =
+    All-weaker (λ (l : Link). l.place.line < 0 + length lines) (λ l. l.place.line < length lines) (λ l less. omega (arith, less)) (all_links (registry_setting always r) lines)
     (found_within (λ mark. not mark.anchor) link_at (λ l. l.place.line) (λ piece mark. refl) (λ kind. []) 0 lines)
 
 -- ---- no page

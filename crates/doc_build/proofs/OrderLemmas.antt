@@ -15,8 +15,9 @@ use Rattle.doc_marks.specs.declared.Mark.{Mark}
 use Rattle.doc_cond.specs.declared.LineKind.{LineKind}
 use Rattle.doc_cond.specs.declared.LineKind.TheVariants.{Plain, Comment, Other, Begin, OneLine, Close, Chapter, Api, Validity, Refpage}
 use Rattle.doc_tree.specs.Flat.{FlatLine}
+use Rattle.reg_registry.specs.Rows.{Rows}
 use Rattle.doc_build.specs.declared.Place.{Place}
-use Rattle.doc_build.specs.Choices.{PageLine, bare_setting}
+use Rattle.doc_build.specs.Choices.{PageLine, registry_setting}
 use Rattle.doc_build.specs.Laws.{IsBefore}
 use Rattle.doc_build.specs.Pieces.{Link, Piece, all_links, link_at, links_of, marks_in, pieces_among, pieces_at, whole_piece}
 use Rattle.doc_build.proofs.FoundLemmas.{found_at, line_of_piece}
@@ -187,9 +188,9 @@ links_in_lines number (line ∷ lines) =
     (links_line number line) (lines_here number line)))
 
 -- the links of a document are in order
-pub links_ordered : (always : List (List ℕ)) (lines : List FlatLine) → AllPairs IsAhead (all_links (bare_setting always lines) lines)
+pub links_ordered : (always : List (List ℕ)) (r : Rows) (lines : List FlatLine) → AllPairs IsAhead (all_links (registry_setting always r) lines)
 unfolding links_from
-links_ordered always lines = all_pairs IsAhead (all_links (bare_setting always lines) lines) (links_in_lines 0 lines)
+links_ordered always r lines = all_pairs IsAhead (all_links (registry_setting always r) lines) (links_in_lines 0 lines)
 
 -- no place is before itself
 never_before : (place : Place) → ¬ IsBefore place place
@@ -206,12 +207,12 @@ never_same links i j link other ordered here there same less =
     let places : (get_or links i link).place ≡ (get_or links j link).place = ap (λ (l : Link). l.place) first ∙ same ∙ sym (ap (λ (l : Link). l.place) second) in
     never_before (get_or links j link).place (subst (λ (place : Place). IsBefore place (get_or links j link).place) places ahead)
 
-pub links_apart : (always : List (List ℕ)) (lines : List FlatLine) (i j : ℕ) (link other : Link)
-    → slice_get (all_links (bare_setting always lines) lines) i ≡ Some link → slice_get (all_links (bare_setting always lines) lines) j ≡ Some other
+pub links_apart : (always : List (List ℕ)) (r : Rows) (lines : List FlatLine) (i j : ℕ) (link other : Link)
+    → slice_get (all_links (registry_setting always r) lines) i ≡ Some link → slice_get (all_links (registry_setting always r) lines) j ≡ Some other
     → link.place ≡ other.place → i ≡ j
-links_apart always lines i j link other here there same =
-    let links = all_links (bare_setting always lines) lines in
-    let ordered = links_ordered always lines in
+links_apart always r lines i j link other here there same =
+    let links = all_links (registry_setting always r) lines in
+    let ordered = links_ordered always r lines in
     elim (cases_order i j) [
       | inl is ↦ is
       | inr (inl less) ↦ absurd (never_same links i j link other ordered here there same less)

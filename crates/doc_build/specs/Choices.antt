@@ -4,6 +4,8 @@ use Rattle.std.specs.List.{flat_map, zip}
 use Rattle.doc_cond.specs.declared.LineKind.{LineKind}
 use Rattle.doc_tree.specs.Flat.{FlatLine, is_among}
 use Rattle.doc_tree.specs.Names.{each_once, names_in}
+use Rattle.reg_registry.specs.Rows.{Rows, bare_rows}
+use Rattle.reg_permit.specs.Permitted.{IsPermitted}
 
 -- one value for each option: whether it is chosen
 abbrev pub Choice : Type 0
@@ -43,14 +45,19 @@ mentioned lines = each_once (flat_map (λ line. names_in line.kind) lines)
 abbrev pub free_names : List (List ℕ) → List FlatLine → List (List ℕ)
 free_names always lines = filter (λ name. not (is_among always name)) (mentioned lines)
 
--- over no registry every choice that has a value for each option is permitted, and no name is declared
-abbrev pub bare_setting : List (List ℕ) → List FlatLine → Setting
-bare_setting always lines = record {
+-- Over a registry: its options, and the choices that it permits, with a value for each option. Generated pages aren't built yet, so this is for
+-- documents that include none of a declared name.
+abbrev pub registry_setting : List (List ℕ) → Rows → Setting
+registry_setting always r = record {
   always = always;
-  options = free_names always lines;
-  Permits = λ choice. length choice ≡ length (free_names always lines);
+  options = r.options;
+  Permits = λ choice. (length choice ≡ length r.options) × IsPermitted r choice;
   pages = no_pages;
 }
+
+-- over no registry: a bare one of the document's options stands for it, which declares nothing and permits every choice
+abbrev pub bare_setting : List (List ℕ) → List FlatLine → Setting
+bare_setting always lines = registry_setting always (bare_rows (free_names always lines))
 
 -- the chosen options, in order
 abbrev pub chosen_of : List (List ℕ) → Choice → List (List ℕ)

@@ -5,35 +5,39 @@ ghost use Rattle.std.specs.List.{flat_map};
 ghost use Rattle.vkb_formula.specs.Names.{AreDifferent};
 ghost use Rattle.doc_tree.specs.Flat.{FlatLine, is_among};
 ghost use Rattle.doc_tree.specs.Names.{each_once, names_in};
-ghost use Rattle.doc_build.specs.Choices.{Choice, bare_setting, chosen_of, free_names, names_set};
+ghost use Rattle.reg_registry.specs.Rows.{Rows};
+ghost use Rattle.doc_build.specs.Choices.{Choice, bare_setting, chosen_of, free_names, names_set, registry_setting};
 ghost use Rattle.doc_build.specs.Ids.{id_at};
 ghost use Rattle.doc_build.specs.Laws.{IsBefore, SetsNoPage, is_kept_at};
 ghost use Rattle.doc_build.specs.Pieces.{Link, all_links, all_pieces, anchors_of, links_of, pieces_of};
 
-/// Over no registry, the anchors and the links of the built text are those of the document whose lines are kept, in order.
+use reg_permit::bare_is_free;
+
+/// Over a registry of whose names no page is included, the anchors and the links of the built text are those of the document whose
+/// lines are kept, in order.
 pub fn kept_marks()
-    ensures anchors { (always : List (List ℕ)) (lines : List FlatLine) (choice : Choice)
-        → anchors_of (pieces_of (bare_setting always lines) lines choice)
-        ≡ filter (λ anchor. is_kept_at (names_set (bare_setting always lines) choice) lines anchor.line) (anchors_of (all_pieces (bare_setting always lines) lines)) }
-    ensures links { (always : List (List ℕ)) (lines : List FlatLine) (choice : Choice)
-        → links_of (pieces_of (bare_setting always lines) lines choice)
-        ≡ filter (λ link. is_kept_at (names_set (bare_setting always lines) choice) lines link.place.line) (all_links (bare_setting always lines) lines) }
+    ensures anchors { (always : List (List ℕ)) (r : Rows) (lines : List FlatLine) (choice : Choice)
+        → anchors_of (pieces_of (registry_setting always r) lines choice)
+        ≡ filter (λ anchor. is_kept_at (names_set (registry_setting always r) choice) lines anchor.line) (anchors_of (all_pieces (registry_setting always r) lines)) }
+    ensures links { (always : List (List ℕ)) (r : Rows) (lines : List FlatLine) (choice : Choice)
+        → links_of (pieces_of (registry_setting always r) lines choice)
+        ≡ filter (λ link. is_kept_at (names_set (registry_setting always r) choice) lines link.place.line) (all_links (registry_setting always r) lines) }
 {}
 
-/// Over no registry, each anchor and each link of a document is in one of its lines.
+/// Over such a registry, each anchor and each link of a document is in one of its lines.
 pub fn marks_in_lines()
-    ensures anchors { (always : List (List ℕ)) (lines : List FlatLine)
-        → All (λ anchor. anchor.line < length lines) (anchors_of (all_pieces (bare_setting always lines) lines)) }
-    ensures links { (always : List (List ℕ)) (lines : List FlatLine)
-        → All (λ link. link.place.line < length lines) (all_links (bare_setting always lines) lines) }
+    ensures anchors { (always : List (List ℕ)) (r : Rows) (lines : List FlatLine)
+        → All (λ anchor. anchor.line < length lines) (anchors_of (all_pieces (registry_setting always r) lines)) }
+    ensures links { (always : List (List ℕ)) (r : Rows) (lines : List FlatLine)
+        → All (λ link. link.place.line < length lines) (all_links (registry_setting always r) lines) }
 {}
 
-/// Over no registry, the links of a document stand in the order of their places, so no two have the same place.
+/// Over such a registry, the links of a document stand in the order of their places, so no two have the same place.
 pub fn links_in_order()
-    ensures order { (always : List (List ℕ)) (lines : List FlatLine)
-        → AllPairs (λ link later. IsBefore link.place later.place) (all_links (bare_setting always lines) lines) }
-    ensures apart { (always : List (List ℕ)) (lines : List FlatLine) (i j : ℕ) (link other : Link)
-        → slice_get (all_links (bare_setting always lines) lines) i ≡ Some link → slice_get (all_links (bare_setting always lines) lines) j ≡ Some other
+    ensures order { (always : List (List ℕ)) (r : Rows) (lines : List FlatLine)
+        → AllPairs (λ link later. IsBefore link.place later.place) (all_links (registry_setting always r) lines) }
+    ensures apart { (always : List (List ℕ)) (r : Rows) (lines : List FlatLine) (i j : ℕ) (link other : Link)
+        → slice_get (all_links (registry_setting always r) lines) i ≡ Some link → slice_get (all_links (registry_setting always r) lines) j ≡ Some other
         → link.place ≡ other.place → i ≡ j }
 {}
 
@@ -54,9 +58,14 @@ pub fn options_follow_the_rule()
         → free_names always (lines ++ more) ≡ free_names always lines ++ filter (λ name. not (is_among (free_names always lines) name)) (free_names always more) }
 {}
 
-/// Over no registry, there is a permitted choice: the one that chooses nothing.
+/// Over no registry, every choice that has a value for each option is permitted. So there is a permitted choice: the one that chooses
+/// nothing.
 pub fn permitted_choices()
+    ensures every { (always : List (List ℕ)) (lines : List FlatLine) (choice : Choice)
+        → length choice ≡ length (free_names always lines) → (bare_setting always lines).Permits choice }
     ensures permitted { (always : List (List ℕ)) (lines : List FlatLine)
         → (bare_setting always lines).Permits (replicate (length (free_names always lines)) false) }
     ensures nothing { (options : List (List ℕ)) → chosen_of options (replicate (length options) false) ≡ [] }
-{}
+{
+    bare_is_free();
+}

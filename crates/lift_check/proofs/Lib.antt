@@ -4,6 +4,7 @@ pub mod ChoicesLemmas
 pub mod MarksLemmas
 pub mod PiecesLemmas
 pub mod SearchLemmas
+pub mod TriedLemmas
 pub mod SitesLemmas
 pub mod VerdictLemmas
 pub mod LawLemmas
@@ -12,3 +13,5 @@ pub mod LineLemmas
 pub mod NodesLemmas
 pub mod OptionsLemmas
 pub mod SettingLemmas
+pub mod PermitLemmas
+pub mod NameLemmas

@@ -15,8 +15,8 @@ use Rattle.doc_cond.specs.declared.LineKind.TheVariants.{Plain, Comment, Other, 
 use Rattle.doc_tree.specs.declared.Cond.{Cond}
 use Rattle.doc_tree.specs.declared.CondId.{CondId}
 use Rattle.doc_tree.specs.declared.Document.{Document}
-use Rattle.doc_tree.specs.Flat.{Condition, is_among, is_kept, is_met, stands_by_itself}
-use Rattle.doc_tree.specs.Loaded.{IsBefore, IsLoaded, IsOwn, condition_of, flat_line, round_at, rounds_of}
+use Rattle.doc_tree.specs.Flat.{Condition, is_among, is_met, stands_by_itself}
+use Rattle.doc_tree.specs.Loaded.{IsBefore, IsLoaded, IsOwn, condition_of, round_at, rounds_of}
 use Rattle.doc_build.specs.Choices.{Choice, Setting, chosen_of}
 use Rattle.lift_check.specs.declared.options.Setting.{Setting as NameSetting}
 use Rattle.lift_check.specs.declared.options.Setting.TheVariants.{Unset}
@@ -35,17 +35,17 @@ setting-at fixed free (n ∷ names) [] are place below = absurd are
 setting-at fixed free (n ∷ names) (s ∷ settings) are zero below = are.0
 setting-at fixed free (n ∷ names) (s ∷ settings) are (suc place) below = setting-at fixed free names settings are.1 place (omega arith)
 
-module _ (fixed names : List (List ℕ)) (options : Settings) (different : AreDifferent options.free) (are : AreSettings fixed names options) (choice : Choice) where
+module _ (fixed free names : List (List ℕ)) (options : Settings) (different : AreDifferent free) (are : AreSettings fixed free names options.each) (choice : Choice) where
   -- the names that are set
   abbrev set : List (List ℕ)
-  set = fixed ++ chosen_of options.free choice
+  set = fixed ++ chosen_of free choice
 
   -- names are set alike by their numbers and by their bytes
   names-alike : (ids : List NameId) → All (λ id. id.0 < length names) ids → map (has_name options choice) ids ≡ map (is_among set) (map (λ id. get_or names id.0 []) ids)
   names-alike [] below = refl
   names-alike (id ∷ ids) below =
       let here = All-head (λ (i : NameId). i.0 < length names) id ids below in
-      ap (λ b. b ∷ map (has_name options choice) ids) (sym (set-as fixed options.free choice (get_or names id.0 []) (get_or options.each id.0 Unset) different (setting-at fixed options.free names options.each are id.0 here)))
+      ap (λ b. b ∷ map (has_name options choice) ids) (sym (set-as fixed free choice (get_or names id.0 []) (get_or options.each id.0 Unset) different (setting-at fixed free names options.each are id.0 here)))
       ∙ ap (λ bs. is_among set (get_or names id.0 []) ∷ bs) (names-alike ids (All-tail (λ (i : NameId). i.0 < length names) id ids below))
 
   -- a condition is met alike
@@ -102,20 +102,19 @@ module _ (d : Document) (set : List (List ℕ)) (met : Cond → Bool) (values : 
   line-on within own (Refpage name) is = plain-on within own is
 
 -- the nodes of all conditions keep each line
-pub keeps-lines : (setting : Setting) (text : List ℕ) (d : Document) (options : Settings) (first pool : List PoolNode) (nodes : List NodeId) → IsLoaded text d → AreSettings setting.always d.names options
-    → options.free ≡ setting.options → AreDifferent options.free → HoldsOptions (length options.free) first → AreNodes first pool nodes (λ choice. met_from (meets options choice) [] d.conds)
-    → KeepsLines setting text d pool nodes
-keeps-lines setting text d options first pool nodes loaded are free different holds made =
-    let kept = HoldsOptions-keeps (length options.free) first pool holds made.keeps in
+pub keeps-lines : (setting : Setting) (text : List ℕ) (d : Document) (options : Settings) (first pool : List PoolNode) (nodes : List NodeId) → IsLoaded text d
+    → AreSettings setting.always setting.options d.names options.each → options.count ≡ length setting.options → AreDifferent setting.options → HoldsOptions options.count first
+    → AreNodes first pool nodes (λ choice. met_from (meets options choice) [] d.conds) → KeepsLines setting text d pool nodes
+keeps-lines setting text d options first pool nodes loaded are count different holds made =
+    let kept = HoldsOptions-keeps options.count first pool holds made.keeps in
     record {
       within = λ k e below. node_in-below (length pool) nodes (omega (arith, kept.count)) made.within (option_or (get_or d.lines k e).own (get_or d.lines k e).within);
-      reach = omega (arith, kept.reach, ap length free);
+      reach = omega (arith, kept.reach, count);
       kept = λ choice k e below.
           let line = get_or d.lines k e in
-          let set = setting.always ++ chosen_of options.free choice in
+          let set = setting.always ++ chosen_of setting.options choice in
           let alike : All (λ c. meets options choice c ≡ is_met set (condition_of d.names c)) d.conds = λ place c within.
-          meets-alike setting.always d.names options different are choice (get_or d.conds place c) (loaded.conds place (get_or d.conds place c) (slice_get-get_or d.conds place c within)).each in
+          meets-alike setting.always setting.options d.names options different are choice (get_or d.conds place c) (loaded.conds place (get_or d.conds place c) (slice_get-get_or d.conds place c within)).each in
           line-on d set (meets options choice) (pool_values choice pool) nodes (kept.always choice) (made.values choice) alike
-          (λ place here held. (loaded.conds place here held).within) line.within line.own line.kind (loaded.lines k e below).own
-          ∙ ap (λ os. is_kept (setting.always ++ chosen_of os choice) (flat_line text d.files (rounds_of d) line)) free;
+          (λ place here held. (loaded.conds place here held).within) line.within line.own line.kind (loaded.lines k e below).own;
     }

@@ -2,7 +2,6 @@
 use Rattle.std.proofs.Common.{inl, inr, ◌≡◌, ◌∙◌, refl, sym, ap, subst, ℕ, zero, suc, ◌+◌, Bool, true, false, not, ◌&&◌, ◌||◌, cond, List, [], ◌∷◌, ◌++◌, length, take, filter, All, Option, Some, None, option_map, is_some, slice_get, arith}
 use Rattle.std.specs.Str.{bytes_eq}
 use Rattle.std.specs.Cmp.Lexicographic.{bytes_decides}
-use Rattle.std.specs.List.{AllZip}
 use Rattle.std.proofs.Math.Bool.{or-false}
 use Rattle.std.proofs.lemmas.Bool.{cases_Bool, false≢true}
 use Rattle.std.proofs.lemmas.List.{append-nil, take_more}
@@ -16,10 +15,9 @@ use Rattle.doc_tree.specs.Flat.{is_among}
 use Rattle.doc_tree.specs.Loaded.{IsLoaded, flat_line, flat_of, rounds_of}
 use Rattle.doc_tree.specs.Names.{each_once, names_in}
 use Rattle.doc_build.specs.Choices.{free_names}
-use Rattle.lift_check.specs.declared.options.OptionId.{OptionId}
 use Rattle.lift_check.specs.declared.options.Setting.{Setting}
 use Rattle.lift_check.specs.declared.options.Setting.TheVariants.{Fixed, Free, Unset}
-use Rattle.lift_check.specs.Options.{AreSettings, IsBelow, IsSetting, Settings, free_among}
+use Rattle.lift_check.specs.Options.{AreSettings, IsBelow, IsSetting, free_among}
 use Rattle.lift_check.proofs.SettingLemmas.{is_among-absent, is_among-held}
 
 -- ---- tables
@@ -127,89 +125,47 @@ options-differ fixed names different =
 
 -- ---- settings, one after another
 
--- what a name is over no registry: always set or an option
-abbrev pub IsBareSetting : List (List ℕ) → List (List ℕ) → List ℕ → Setting → Type 0
-IsBareSetting fixed free name Unset = ⊥
-IsBareSetting fixed free name setting = IsSetting fixed free name setting
-
--- so far each name is always set or an option
-pub record AreBare (fixed names free : List (List ℕ)) (settings : List Setting) : Type 0 where
-  pub free_are : free ≡ free_among fixed names
-  pub each : AllZip (IsBareSetting fixed free) names settings
-
-slice_get-left : (names more : List (List ℕ)) (place : ℕ) (name : List ℕ) → slice_get names place ≡ Some name → slice_get (names ++ more) place ≡ Some name
-slice_get-left [] more place name held = absurd (cc)
-slice_get-left (first ∷ names) more zero name held = held
-slice_get-left (first ∷ names) more (suc place) name held = slice_get-left names more place name held
-
-slice_get-last : (names : List (List ℕ)) (name : List ℕ) → slice_get (names ++ name ∷ []) (length names) ≡ Some name
-slice_get-last [] name = refl
-slice_get-last (first ∷ names) name = slice_get-last names name
-
-IsBare-more : (fixed free more : List (List ℕ)) (name : List ℕ) (setting : Setting) → IsBareSetting fixed free name setting → IsBareSetting fixed (free ++ more) name setting
-IsBare-more fixed free more name Fixed is = is
-IsBare-more fixed free more name (Free option) is = (is.0, slice_get-left free more option.0 name is.1)
-IsBare-more fixed free more name Unset is = absurd is
-
-AllBare-more : (fixed free more names : List (List ℕ)) (settings : List Setting) → AllZip (IsBareSetting fixed free) names settings → AllZip (IsBareSetting fixed (free ++ more)) names settings
-AllBare-more fixed free more [] [] each = tt
-AllBare-more fixed free more [] (s ∷ settings) each = absurd each
-AllBare-more fixed free more (n ∷ names) [] each = absurd each
-AllBare-more fixed free more (n ∷ names) (s ∷ settings) each = (IsBare-more fixed free more n s each.0, AllBare-more fixed free more names settings each.1)
-
-free-more : (fixed names : List (List ℕ)) (name : List ℕ) (b : Bool) → is_among fixed name ≡ b → free_among fixed (names ++ name ∷ []) ≡ free_among fixed names ++ cond (not b) (name ∷ []) []
-free-more fixed names name b is =
-    filter-append (λ other. not (is_among fixed other)) names (name ∷ []) ∙ ap (λ b. free_among fixed names ++ cond (not b) (name ∷ []) []) is
-
--- one name more that is always set
-pub AreBare-fixed : (fixed names free : List (List ℕ)) (settings : List Setting) (name : List ℕ) → AreBare fixed names free settings → is_among fixed name ≡ true → AreBare fixed (names ++ name ∷ []) free (settings ++ Fixed ∷ [])
-AreBare-fixed fixed names free settings name are is = record {
-  free_are = are.free_are ∙ sym (free-more fixed names name true is ∙ append-nil (free_among fixed names));
-  each = all_zipped_more (IsBareSetting fixed free) names settings name Fixed are.each is;
-}
-
--- one option more
-pub AreBare-free : (fixed names free : List (List ℕ)) (settings : List Setting) (name : List ℕ) (option : OptionId) → AreBare fixed names free settings → is_among fixed name ≡ false → option.0 ≡ length free
-    → AreBare fixed (names ++ name ∷ []) (free ++ name ∷ []) (settings ++ Free option ∷ [])
-AreBare-free fixed names free settings name option are isnt number = record {
-  free_are = ap (λ ns. ns ++ name ∷ []) are.free_are ∙ sym (free-more fixed names name false isnt);
-  each = all_zipped_more (IsBareSetting fixed (free ++ name ∷ [])) names settings name (Free option) (AllBare-more fixed free (name ∷ []) names settings are.each)
-      (isnt, ap (slice_get (free ++ name ∷ [])) number ∙ slice_get-last free name);
-}
-
--- the same for lists that are these
-pub AreBare-as : (fixed names free names_now free_now : List (List ℕ)) (settings settings_now : List Setting) → names_now ≡ names → free_now ≡ free → settings_now ≡ settings → AreBare fixed names free settings → AreBare fixed names_now free_now settings_now
-AreBare-as fixed names free names_now free_now settings settings_now same_names same_free same_settings are =
-    subst (λ (ns : List (List ℕ)). AreBare fixed ns free_now settings_now) (sym same_names)
-    (subst (λ (fs : List (List ℕ)). AreBare fixed names fs settings_now) (sym same_free)
-    (subst (λ (ss : List Setting). AreBare fixed names free ss) (sym same_settings) are))
-
 -- one name more, at its place
 pub next-name : (names : List (List ℕ)) (place : ℕ) (name : List ℕ) → slice_get names place ≡ Some name → take (place + 1) names ≡ take place names ++ name ∷ []
 next-name names place name held =
     take_more names place [] (slice_get_within names place name held) ∙ ap (λ n. take place names ++ n ∷ []) (get_or_from_slice_get names place name [] held)
 
--- each is what its setting says
-pub AreSettings-bare : (fixed names free : List (List ℕ)) (settings : List Setting) → AllZip (IsBareSetting fixed free) names settings → AreSettings fixed names (record { free = free; each = settings })
-AreSettings-bare fixed [] free [] each = tt
-AreSettings-bare fixed [] free (s ∷ settings) each = absurd each
-AreSettings-bare fixed (n ∷ names) free [] each = absurd each
-AreSettings-bare fixed (n ∷ names) free (Fixed ∷ settings) each = (each.0, AreSettings-bare fixed names free settings each.1)
-AreSettings-bare fixed (n ∷ names) free (Free option ∷ settings) each = (each.0, AreSettings-bare fixed names free settings each.1)
-AreSettings-bare fixed (n ∷ names) free (Unset ∷ settings) each = absurd each.0
+-- one setting more
+pub settings-more : (fixed free names : List (List ℕ)) (settings settings_now : List Setting) (place : ℕ) (name : List ℕ) (setting : Setting) → slice_get names place ≡ Some name
+    → settings_now ≡ settings ++ setting ∷ [] → IsSetting fixed free name setting → AreSettings fixed free (take place names) settings → AreSettings fixed free (take (place + 1) names) settings_now
+settings-more fixed free names settings settings_now place name setting held added is are =
+    subst (λ (ns : List (List ℕ)). AreSettings fixed free ns settings_now) (sym (next-name names place name held))
+    (subst (λ (ss : List Setting). AreSettings fixed free (take place names ++ name ∷ []) ss) (sym added) (all_zipped_more (IsSetting fixed free) (take place names) settings name setting are is))
 
 -- the options that settings name are there
-below-bare : (fixed free : List (List ℕ)) (name : List ℕ) (setting : Setting) → IsBareSetting fixed free name setting → IsBelow (length free) setting
-below-bare fixed free name Fixed is = tt
-below-bare fixed free name (Free option) is = slice_get_within free option.0 name is.1
-below-bare fixed free name Unset is = tt
+below : (fixed free : List (List ℕ)) (name : List ℕ) (setting : Setting) → IsSetting fixed free name setting → IsBelow (length free) setting
+below fixed free name Fixed is = tt
+below fixed free name (Free option) is = slice_get_within free option.0 name is.1
+below fixed free name Unset is = tt
 
-pub AllBelow-bare : (fixed names free : List (List ℕ)) (settings : List Setting) → AllZip (IsBareSetting fixed free) names settings → All (IsBelow (length free)) settings
-AllBelow-bare fixed [] free [] each = All-nil (IsBelow (length free))
-AllBelow-bare fixed [] free (s ∷ settings) each = absurd each
-AllBelow-bare fixed (n ∷ names) free [] each = absurd each
-AllBelow-bare fixed (n ∷ names) free (s ∷ settings) each =
-    All-cons (IsBelow (length free)) s settings (below-bare fixed free n s each.0) (AllBelow-bare fixed names free settings each.1)
+pub all_below : (fixed free names : List (List ℕ)) (settings : List Setting) → AreSettings fixed free names settings → All (IsBelow (length free)) settings
+all_below fixed free [] [] are = All-nil (IsBelow (length free))
+all_below fixed free [] (s ∷ settings) are = absurd are
+all_below fixed free (n ∷ names) [] are = absurd are
+all_below fixed free (n ∷ names) (s ∷ settings) are =
+    All-cons (IsBelow (length free)) s settings (below fixed free n s are.0) (all_below fixed free names settings are.1)
+
+-- ---- what is free, one name after another
+
+free-more : (fixed names : List (List ℕ)) (name : List ℕ) (b : Bool) → is_among fixed name ≡ b → free_among fixed (names ++ name ∷ []) ≡ free_among fixed names ++ cond (not b) (name ∷ []) []
+free-more fixed names name b is =
+    filter-append (λ other. not (is_among fixed other)) names (name ∷ []) ∙ ap (λ b. free_among fixed names ++ cond (not b) (name ∷ []) []) is
+
+-- a name that is always set adds nothing
+pub free-fixed : (fixed names : List (List ℕ)) (place : ℕ) (name : List ℕ) → slice_get names place ≡ Some name → is_among fixed name ≡ true
+    → free_among fixed (take (place + 1) names) ≡ free_among fixed (take place names)
+free-fixed fixed names place name held is =
+    ap (free_among fixed) (next-name names place name held) ∙ free-more fixed (take place names) name true is ∙ append-nil (free_among fixed (take place names))
+
+-- and another adds itself
+pub free-other : (fixed names : List (List ℕ)) (place : ℕ) (name : List ℕ) → slice_get names place ≡ Some name → is_among fixed name ≡ false
+    → free_among fixed (take (place + 1) names) ≡ free_among fixed (take place names) ++ name ∷ []
+free-other fixed names place name held isnt = ap (free_among fixed) (next-name names place name held) ∙ free-more fixed (take place names) name false isnt
 
 -- ---- what is always set, named otherwise
 
@@ -219,14 +175,11 @@ module _ (fixed always : List (List ℕ)) (same : (name : List ℕ) → is_among
   IsSetting-alike free name (Free option) is = (sym (same name) ∙ is.0, is.1)
   IsSetting-alike free name Unset is = (sym (same name) ∙ is.0, is.1)
 
-  AllSettings-alike : (free names : List (List ℕ)) (settings : List Setting) → AllZip (IsSetting fixed free) names settings → AllZip (IsSetting always free) names settings
-  AllSettings-alike free [] [] each = tt
-  AllSettings-alike free [] (s ∷ settings) each = absurd each
-  AllSettings-alike free (n ∷ names) [] each = absurd each
-  AllSettings-alike free (n ∷ names) (s ∷ settings) each = (IsSetting-alike free n s each.0, AllSettings-alike free names settings each.1)
-
-  pub AreSettings-alike : (names : List (List ℕ)) (settings : Settings) → AreSettings fixed names settings → AreSettings always names settings
-  AreSettings-alike names settings are = AllSettings-alike settings.free names settings.each are
+  pub AreSettings-alike : (free names : List (List ℕ)) (settings : List Setting) → AreSettings fixed free names settings → AreSettings always free names settings
+  AreSettings-alike free [] [] each = tt
+  AreSettings-alike free [] (s ∷ settings) each = absurd each
+  AreSettings-alike free (n ∷ names) [] each = absurd each
+  AreSettings-alike free (n ∷ names) (s ∷ settings) each = (IsSetting-alike free n s each.0, AreSettings-alike free names settings each.1)
 
   pub free_among-alike : (names : List (List ℕ)) → free_among fixed names ≡ free_among always names
   free_among-alike names = filter_agree (λ name. not (is_among fixed name)) (λ name. not (is_among always name)) (λ name. ap not (same name)) names

@@ -1,25 +1,20 @@
--- The first link that a choice breaks, and the first that some choice does.
-use Rattle.std.proofs.Common.{◌≡◌, ℕ, ◌+◌, ◌<◌, ◌≤◌, ◌&&◌, eqb, ltb, not, Bool, true, false, cond, List, [], ◌∷◌, length, take, get_or, slice_get, All, Option, Some, None, MatchOption, ◌^◌, subst, below_more, set, length-take, length-take-le, get_or-set_other, refl, ap, sym, ◌∙◌, inl, inr, arith}
+-- The first link that a choice breaks.
+use Rattle.std.proofs.Common.{◌≡◌, ℕ, ◌+◌, ◌<◌, ◌≤◌, ◌&&◌, eqb, ltb, not, Bool, true, false, cond, List, [], ◌∷◌, length, take, get_or, slice_get, All, Option, Some, None, set, length-take, length-take-le, get_or-set_other, refl, ap, sym, ◌∙◌, inl, inr, arith}
 use Rattle.std.specs.List.{position, position_or_len, prefix_len}
-use Rattle.std.proofs.lemmas.Bool.{cases_Bool, ltb-false}
+use Rattle.std.proofs.lemmas.Bool.{cases_Bool, false≢true, ltb-false}
 use Rattle.std.proofs.lemmas.Bool.Decides.{eqb_tells}
 use Rattle.std.proofs.lemmas.Grind.{get_or-set_at}
-use Rattle.std.proofs.lemmas.List.{get_or_default, get_or-take, take-take}
+use Rattle.std.proofs.lemmas.List.{get_or_default, get_or-take}
 use Rattle.std.proofs.lemmas.Option.{get_or_from_slice_get, slice_get-get_or, slice_get_within}
-use Rattle.std.proofs.lemmas.List.Elements.{All-head, All-tail, All-take}
+use Rattle.std.proofs.lemmas.List.Elements.{All-head, All-tail}
 use Rattle.std.proofs.lemmas.List.Sums.{count_by_more_yes, count_by_more_no, count_by-le-length, fails_before_first}
 use Rattle.std.proofs.lemmas.List.Quantifiers.{position-Some}
 use Rattle.lift_check.specs.declared.survey.AnchorSite.{AnchorSite}
 use Rattle.lift_check.specs.declared.survey.LinkSite.{LinkSite}
-use Rattle.vkb_formula.specs.Pools.{pool_values}
 use Rattle.vkb_formula.specs.declared.pool.NodeId.{NodeId}
-use Rattle.vkb_formula.specs.declared.pool.PoolNode.{PoolNode}
-use Rattle.lift_check.specs.declared.search.Broken.{Broken}
-use Rattle.lift_check.specs.Choices.{choice_at}
-use Rattle.doc_build.specs.Choices.{Choice}
+use Rattle.lift_check.specs.Keeping.{is_on}
 use Rattle.lift_check.specs.Lines.{is_line_on}
-use Rattle.lift_check.proofs.ChoicesLemmas.{number_of, number_of-below, choice_at-number_of}
-use Rattle.lift_check.specs.Search.{IsFound, NeverBreaks, anchors_on, is_broken}
+use Rattle.lift_check.specs.Search.{anchors_on, is_broken, is_broken_there}
 
 -- tests that agree on each element pass equally many at the front
 pub prefix_len-same : {X : Type 0} (p q : X → Bool) → (xs : List X) → All (λ x. p x ≡ q x) xs → prefix_len p xs ≡ prefix_len q xs
@@ -119,6 +114,19 @@ module _ (nodes : List NodeId) where
       → AreCounts values (take index anchors) ids counts → AreCounts values (take (index + 1) anchors) ids counts
   counts-off values anchors ids index d counts within off so_far id h = so_far id h ∙ sym (anchors_on-no values anchors index d id within (rw off refl))
 
+  -- where the node is off, no link is broken there
+  pub none-there : (values : List Bool) (permit : NodeId) (anchors : List AnchorSite) (links : List LinkSite) → is_on values permit ≡ false → position (is_broken_there values permit nodes anchors) links ≡ None
+  none-there values permit anchors links off =
+      none-else (position (is_broken_there values permit nodes anchors) links)
+      (λ place at.
+      let there = position-here (is_broken_there values permit nodes anchors) links place at in
+      false≢true (sym (ap (λ b. b && is_broken values nodes anchors there.0) off) ∙ there.2))
+
+  -- where it is on, what is broken there is what is broken
+  pub all-there : (values : List Bool) (permit : NodeId) (anchors : List AnchorSite) (links : List LinkSite) → is_on values permit ≡ true
+      → position (is_broken values nodes anchors) links ≡ position (is_broken_there values permit nodes anchors) links
+  all-there values permit anchors links on = ap (λ b. position (λ link. b && is_broken values nodes anchors link) links) (sym on)
+
   -- the links that counts break are those that are broken
   pub first_broken-is : (values by again : List Bool) (counts given : List ℕ) (anchors : List AnchorSite) (links : List LinkSite) (ids : ℕ) (place : Option ℕ) → by ≡ values → again ≡ values → given ≡ counts
       → All (λ l. l.id.0 < ids) links → AreCounts by anchors ids counts
@@ -139,86 +147,3 @@ module _ (nodes : List NodeId) where
       let short : (get_or links place d).id.0 < length counts = omega arith in
       read ∙ get_or_default counts (get_or links place d).id.0 count 0 short ∙ counted (get_or links place d).id.0 id
       ∙ ap (λ (vs : List Bool). anchors_on vs nodes anchors (get_or links place d).id.0) by-is ∙ ap (λ (l : LinkSite). anchors_on values nodes anchors l.id.0) is
-
-  -- no choice of a number below this one breaks one of the links
-  abbrev pub NoneBreaks : List PoolNode → ℕ → ℕ → List AnchorSite → List LinkSite → Type 0
-  NoneBreaks pool options number anchors links = (n : ℕ) → n < number → All (λ link. is_broken (pool_values (choice_at options n) pool) nodes anchors link ≡ false) links
-
-  -- the link at a place stands right behind those ahead, and is broken at a choice with a count
-  pub record StandsBehind (pool : List PoolNode) (options : ℕ) (anchors : List AnchorSite) (links ahead : List LinkSite) (place : ℕ) (choice : Choice) (count : ℕ) : Type 0 where
-    pub link : LinkSite
-    pub here : slice_get links place ≡ Some link
-    pub before : ahead ≡ take place links
-    pub fits : length choice ≡ options
-    pub broken : is_broken (pool_values choice pool) nodes anchors link ≡ true
-    pub counted : count ≡ anchors_on (pool_values choice pool) nodes anchors link.id.0
-
-  -- what is found when the choices below a number are tried, and the links ahead of it
-  pub record Tried (pool : List PoolNode) (options : ℕ) (anchors : List AnchorSite) (links ahead : List LinkSite) (number : ℕ) (found : Option Broken) : Type 0 where
-    pub tried : NoneBreaks pool options number anchors ahead
-    pub front : ahead ≡ take (length ahead) links
-    pub best : MatchOption found (ahead ≡ links) (λ b. StandsBehind pool options anchors links ahead b.link.0 b.choice.items b.count)
-
-  -- one more choice breaks nothing ahead
-  pub Tried-more : (pool : List PoolNode) (options : ℕ) (anchors : List AnchorSite) (links ahead : List LinkSite) (number : ℕ) (found : Option Broken) (choice : Choice)
-      → Tried pool options anchors links ahead number found → choice ≡ choice_at options number → position (is_broken (pool_values choice pool) nodes anchors) ahead ≡ None
-      → Tried pool options anchors links ahead (number + 1) found
-  Tried-more pool options anchors links ahead number found choice was is none = record {
-    tried = below_more _ _ was.tried (position-None (is_broken (pool_values (choice_at options number) pool) nodes anchors) ahead (ap (λ (c : Choice). position (is_broken (pool_values c pool) nodes anchors) ahead) (sym is) ∙ none));
-    front = was.front;
-    best = was.best;
-  }
-
-  -- one more choice breaks a link ahead
-  pub Tried-found : (pool : List PoolNode) (options : ℕ) (anchors : List AnchorSite) (links ahead : List LinkSite) (number : ℕ) (found : Option Broken) (choice : Choice) (broken : Broken)
-      → Tried pool options anchors links ahead number found → choice ≡ choice_at options number → length choice ≡ options
-      → position (is_broken (pool_values choice pool) nodes anchors) ahead ≡ Some broken.link.0 → broken.choice.items ≡ choice
-      → ((link : LinkSite) → slice_get ahead broken.link.0 ≡ Some link → broken.count ≡ anchors_on (pool_values choice pool) nodes anchors link.id.0)
-      → Tried pool options anchors links (take broken.link.0 ahead) (number + 1) (Some broken)
-  Tried-found pool options anchors links ahead number found choice broken was is fits at same counted =
-      let test : LinkSite → Bool = is_broken (pool_values choice pool) nodes anchors in
-      let there = position-here test ahead broken.link.0 at in
-      let within = slice_get_within ahead broken.link.0 there.0 there.1 in
-      let ends : take broken.link.0 ahead ≡ take broken.link.0 links = ap (take broken.link.0) was.front ∙ take-take broken.link.0 (length ahead) links (omega arith) in
-      let short : length (take broken.link.0 ahead) ≡ broken.link.0 = length-take-le broken.link.0 ahead (omega arith) in
-      let here : slice_get links broken.link.0 ≡ Some there.0 = slice_get-front links ahead broken.link.0 there.0 was.front there.1 in
-      let before : All (λ link. is_broken (pool_values (choice_at options number) pool) nodes anchors link ≡ false) (take broken.link.0 ahead) =
-      position-before (is_broken (pool_values (choice_at options number) pool) nodes anchors) ahead broken.link.0 (ap (λ (c : Choice). position (is_broken (pool_values c pool) nodes anchors) ahead) (sym is) ∙ at) in
-      let values : pool_values broken.choice.items pool ≡ pool_values choice pool = ap (λ (c : Choice). pool_values c pool) same in
-      record {
-        tried = below_more _ _ (λ n below. All-take (λ link. is_broken (pool_values (choice_at options n) pool) nodes anchors link ≡ false) broken.link.0 ahead (was.tried n below)) before;
-        front = ends ∙ ap (λ k. take k links) (sym short);
-        best = record {
-          link = there.0;
-          here = here;
-          before = ends;
-          fits = ap length same ∙ fits;
-          broken = ap (λ (vs : List Bool). is_broken vs nodes anchors there.0) values ∙ there.2;
-          counted = counted there.0 there.1 ∙ sym (ap (λ (vs : List Bool). anchors_on vs nodes anchors there.0.id.0) values);
-        };
-      }
-
-  -- when no choice breaks a link ahead, what is found is the answer
-  pub found-first : (pool : List PoolNode) (options : ℕ) (anchors : List AnchorSite) (links ahead : List LinkSite) (number : ℕ) (found : Option Broken) → Tried pool options anchors links ahead number found
-      → NeverBreaks pool nodes options anchors ahead → IsFound pool nodes options anchors links found
-  found-first pool options anchors links ahead number None was never = let same : ahead ≡ links = was.best in let P : List LinkSite → Type 0 = λ ls. NeverBreaks pool nodes options anchors ls in subst P same never
-  found-first pool options anchors links ahead number (Some b) was never =
-      let P : List LinkSite → Type 0 = λ ls. NeverBreaks pool nodes options anchors ls in
-      record {
-        link = was.best.link;
-        here = was.best.here;
-        first = subst P was.best.before never;
-        fits = was.best.fits;
-        broken = was.best.broken;
-        counted = was.best.counted;
-      }
-
-  -- all numbers of choices are tried, so all choices are
-  pub never-all : (pool : List PoolNode) (options number : ℕ) (anchors : List AnchorSite) (ahead : List LinkSite) → NoneBreaks pool options number anchors ahead → 2 ^ options ≤ number → NeverBreaks pool nodes options anchors ahead
-  never-all pool options number anchors ahead tried all choice fits =
-      let n : ℕ = number_of choice in
-      let below : n < 2 ^ length choice = number_of-below choice in
-      let within : n < number = omega (arith, ap (λ k. 2 ^ k) fits) in
-      let is : choice_at options n ≡ choice = ap (λ k. choice_at k n) (sym fits) ∙ choice_at-number_of choice in
-      let P : Choice → Type 0 = λ c. All (λ link. is_broken (pool_values c pool) nodes anchors link ≡ false) ahead in
-      subst P is (tried n within)

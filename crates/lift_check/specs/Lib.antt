@@ -3,6 +3,7 @@ pub mod Keeping
 pub mod Lines
 pub mod Nodes
 pub mod Options
+pub mod Permits
 pub mod Search
 pub mod Survey
 pub mod Verdict

@@ -6,10 +6,10 @@ use Rattle.vkb_formula.specs.declared.pool.PoolNode.{PoolNode}
 use Rattle.vkb_text.specs.Spans.{IsWithin as IsSpanWithin, slice_at}
 use Rattle.doc_cond.specs.Lines.{IsWithin as IsKindWithin}
 use Rattle.doc_tree.specs.Flat.{FlatLine}
-use Rattle.doc_tree.specs.Loaded.{flat_of}
 use Rattle.doc_tree.specs.declared.DocLine.{DocLine}
 use Rattle.doc_tree.specs.declared.Document.{Document}
-use Rattle.doc_build.specs.Choices.{Choice, Setting, free_names, names_set}
+use Rattle.reg_registry.specs.Rows.{Rows}
+use Rattle.doc_build.specs.Choices.{Choice, Setting, names_set}
 use Rattle.doc_build.specs.Laws.{is_kept_at}
 use Rattle.lift_check.specs.Options.{AreSettings, Settings}
 
@@ -34,7 +34,7 @@ pub record AreLineNodes (setting : Setting) (lines : List FlatLine) (pool : List
   pub kept : (choice : Choice) → length choice ≡ length setting.options → (line : ℕ) → line < length lines
       → is_line_on (pool_values choice pool) nodes line ≡ is_kept_at (names_set setting choice) lines line
 
--- the options and what each name is are those of a loaded document, where some names are always set
-pub record AreOptionsOf (always : List (List ℕ)) (text : List ℕ) (d : Document) (settings : Settings) : Type 0 where
-  pub each : AreSettings always d.names settings
-  pub free : settings.free ≡ free_names always (flat_of text d)
+-- the settings are those of a document's names over the options of a registry, where some names are always set
+pub record AreOptionsOf (always : List (List ℕ)) (r : Rows) (d : Document) (settings : Settings) : Type 0 where
+  pub count : settings.count ≡ length r.options
+  pub each : AreSettings always r.options d.names settings.each

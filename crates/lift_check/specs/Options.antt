@@ -6,9 +6,9 @@ use Rattle.doc_tree.specs.Flat.{is_among}
 use Rattle.lift_check.specs.declared.options.Setting.{Setting}
 use Rattle.lift_check.specs.declared.options.Setting.TheVariants.{Fixed, Free, Unset}
 
--- the options, in order, and what each name of the document is, by its number
+-- how many options there are, and what each name of the document is, by its number
 pub record Settings : Type 0 where
-  pub free : List (List ℕ)
+  pub count : ℕ
   pub each : List Setting
 
 -- what a name is, by its number; a name that the document hasn't is never set
@@ -22,8 +22,8 @@ IsSetting always free name (Free option) = (is_among always name ≡ false) × (
 IsSetting always free name Unset = (is_among always name ≡ false) × (is_among free name ≡ false)
 
 -- each of the names is what its setting says
-abbrev pub AreSettings : List (List ℕ) → List (List ℕ) → Settings → Type 0
-AreSettings always names settings = AllZip (IsSetting always settings.free) names settings.each
+abbrev pub AreSettings : List (List ℕ) → List (List ℕ) → List (List ℕ) → List Setting → Type 0
+AreSettings always free names settings = AllZip (IsSetting always free) names settings
 
 -- the names that aren't always set, in order
 abbrev pub free_among : List (List ℕ) → List (List ℕ) → List (List ℕ)

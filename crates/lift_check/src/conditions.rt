@@ -1,13 +1,15 @@
 //! A formula for each condition of a document, in one pool.
 ghost use Rattle.std.specs.Prelude.{◌≡◌, ◌<◌, ◌≤◌, ℕ, Bool, List, [], true, ◌&&◌, All, IfOk, if◌then◌else◌, length, map};
 ghost use Rattle.std.specs.List.{list_all, list_any};
+ghost use Rattle.vkb_formula.specs.Names.{AreDifferent};
 ghost use Rattle.vkb_formula.specs.Pools.{parts_of, pool_reach, pool_values};
 ghost use Rattle.vkb_formula.specs.declared.pool.PoolNode.{PoolNode};
-ghost use Rattle.doc_tree.specs.Loaded.{IsLoaded, flat_of};
-ghost use Rattle.doc_build.specs.Choices.{bare_setting, free_names};
+ghost use Rattle.doc_tree.specs.Loaded.{IsLoaded};
+ghost use Rattle.reg_registry.specs.Rows.{Rows};
+ghost use Rattle.doc_build.specs.Choices.{registry_setting};
 ghost use Rattle.lift_check.specs.Keeping.{KeepsLines, is_on, node_in, node_of};
 ghost use Rattle.lift_check.specs.Nodes.{AreNodes, HoldsOptions, IsNode, IsPut, has_name, meets, met_from, node_for};
-ghost use Rattle.lift_check.specs.Options.{AreSettings};
+ghost use Rattle.lift_check.specs.Lines.{AreOptionsOf};
 
 use crate::Memory;
 use crate::options::{Options, Setting};
@@ -40,12 +42,11 @@ impl Conditions {
     }
 }
 
-/// The formulas of the conditions of a document whose names are these options or always set. An `Err` is want of memory.
+/// The formulas of the conditions of a document whose names are what the settings say. An `Err` is want of memory.
 pub fn read_conditions(alloc: Global, d: &Document, options: &Options) -> Result<Conditions, Memory>
-    ensures reach { IfOk result (λ c. pool_reach c.pool ≤ length options.now.free) }
-    ensures lines { (text : List ℕ) (always : List (List ℕ)) → IsLoaded text d.now
-        → AreSettings always d.now.names options.now → options.now.free ≡ free_names always (flat_of text d.now)
-        → IfOk result (λ c. KeepsLines (bare_setting always (flat_of text d.now)) text d.now c.pool c.nodes) }
+    ensures reach { IfOk result (λ c. pool_reach c.pool ≤ options.now.count) }
+    ensures lines { (text : List ℕ) (always : List (List ℕ)) (r : Rows) → IsLoaded text d.now → AreDifferent r.options
+        → AreOptionsOf always r d.now options.now → IfOk result (λ c. KeepsLines (registry_setting always r) text d.now c.pool c.nodes) }
 {
     let mut pool = option_nodes(alloc, options.len())?;
     let nodes = cond_nodes(alloc, &mut pool, options, d.conds.as_slice())?;
@@ -75,7 +76,7 @@ fn cond_nodes(
     options: &Options,
     conds: &[Cond],
 ) -> Result<Vec<NodeId>, Memory>
-    requires { HoldsOptions (length options.now.free) pool.old }
+    requires { HoldsOptions (options.now.count) pool.old }
     ensures { IfOk result (λ nodes. AreNodes pool.old pool.new nodes.items
         (λ choice. met_from (meets options.now choice) [] conds.now)) }
 {
@@ -107,7 +108,7 @@ fn inner_node(
     cond: &Cond,
     around: NodeId,
 ) -> Result<NodeId, Memory>
-    requires holds { HoldsOptions (length options.now.free) pool.old }
+    requires holds { HoldsOptions (options.now.count) pool.old }
     requires within { around.0 < length pool.old }
     ensures { IfOk result (λ id. IsNode pool.old pool.new id
         (λ choice. is_on (pool_values choice pool.old) around && meets options.now choice cond.now)) }
@@ -123,7 +124,7 @@ fn own_node(
     options: &Options,
     cond: &Cond,
 ) -> Result<NodeId, Memory>
-    requires { HoldsOptions (length options.now.free) pool.old }
+    requires { HoldsOptions (options.now.count) pool.old }
     ensures { IfOk result (λ id. IsNode pool.old pool.new id (λ choice. meets options.now choice cond.now)) }
 {
     let nodes = name_nodes(alloc, options, cond.names.as_slice())?;
@@ -136,7 +137,7 @@ fn own_node(
 
 /// The nodes of names, in order, each true where the name is set.
 fn name_nodes(alloc: Global, options: &Options, names: &[NameId]) -> Result<Vec<NodeId>, Memory>
-    ensures { (pool : List PoolNode) → HoldsOptions (length options.now.free) pool → IfOk result (λ nodes.
+    ensures { (pool : List PoolNode) → HoldsOptions (options.now.count) pool → IfOk result (λ nodes.
         AreNodes pool pool nodes.items (λ choice. map (has_name options.now choice) names.now)) }
 {
     let mut nodes = Vec::with_capacity(alloc, names.len())?;

@@ -1,13 +1,17 @@
-//! The names of a document's conditions, and what each of them is.
-ghost use Rattle.std.specs.Prelude.{◌≡◌, ◌^◌, ◌<◌, List, ℕ, Some, length, slice_get, IfOk};
-ghost use Rattle.vkb_formula.specs.Names.{AreDifferent};
+//! The names of a document's conditions, and what each of them is over the options of a registry.
+ghost use Rattle.std.specs.Prelude.{◌≡◌, ◌≤◌, List, ℕ, All, true, length, IfOk};
+ghost use Rattle.vkb_formula.specs.Names.{AreDifferent, most_names};
 ghost use Rattle.doc_tree.specs.Flat.{is_among};
 ghost use Rattle.doc_tree.specs.Loaded.{IsLoaded, flat_of};
+ghost use Rattle.reg_registry.specs.Rows.{bare_rows};
+ghost use Rattle.reg_registry.specs.Words.{is_name};
 ghost use Rattle.doc_build.specs.Choices.{free_names};
-ghost use Rattle.lift_check.specs.Options.{AreSettings, IsBelow, free_among, setting_of};
+ghost use Rattle.lift_check.specs.Lines.{AreOptionsOf};
+ghost use Rattle.lift_check.specs.Options.{AreSettings, IsBelow, IsSetting, free_among, setting_of};
 
 use crate::Memory;
 use doc_tree::Document;
+use reg_registry::Registry;
 use std::alloc::Global;
 use std::marker::Model;
 use vkb_bytes::Bytes;
@@ -28,46 +32,36 @@ pub enum Setting {
     Unset,
 }
 
-/// The options, which all differ, and what each name of a document is.
+/// What each name of a document is. The names of the options are those of the registry.
 #[derive(Drop)]
 pub struct Options {
-    names: Vec<Bytes>,
+    count: u32,
     settings: Vec<Setting>,
 }
 
 impl Model for Options {
-    ghost use Rattle.std.specs.Prelude.{◌^◌, ◌<◌, All, length};
-    ghost use Rattle.vkb_formula.specs.Names.{AreDifferent};
+    ghost use Rattle.std.specs.Prelude.{All};
     ghost use Rattle.lift_check.specs.Options.{IsBelow, Settings};
 
     ghost Value = { Settings };
 
-    ghost view = { λ o. record { free = o.names.items; each = o.settings.items } };
+    ghost view = { λ o. record { count = o.count; each = o.settings.items } };
 
-    ghost invariant = { λ o. AreDifferent o.names.items × (length o.names.items < 2 ^ 32) × All (IsBelow (length o.names.items)) o.settings.items };
+    ghost invariant = { λ o. All (IsBelow o.count) o.settings.items };
 }
 
 impl Options {
     /// The number of options. It takes no memory.
     pub fn len(&self) -> u32
-        ensures count { result ≡ length self.now.free }
-        ensures different { AreDifferent self.now.free }
+        ensures { result ≡ self.now.count }
     {
-        self.names.len() as u32
-    }
-
-    /// The name of an option. It takes no memory.
-    pub fn name(&self, option: OptionId) -> &[u8]
-        requires { option.0 < length self.now.free }
-        ensures { slice_get self.now.free option.0 ≡ Some result.now }
-    {
-        self.names[option.0 as usize].as_slice()
+        self.count
     }
 
     /// What a name of the document is; a name that the document hasn't is never set. It takes no memory.
     pub fn setting_of(&self, name: NameId) -> Setting
         ensures setting { result ≡ setting_of self.now name }
-        ensures below { IsBelow (length self.now.free) result }
+        ensures below { IsBelow self.now.count result }
     {
         self.settings
             .get(name.0 as usize)
@@ -76,42 +70,92 @@ impl Options {
     }
 }
 
-/// What the names of a document are over no registry, where some names are always set: each other name is an option, in
-/// the order of first mention. An `Err` is want of memory.
-pub fn read_options(alloc: Global, d: &Document, always: &[Bytes]) -> Result<Options, Memory>
-    ensures settings { IfOk result (AreSettings always.now d.now.names) }
-    ensures free { IfOk result (λ o. o.free ≡ free_among always.now d.now.names) }
-    ensures loaded { (text : List ℕ) → IsLoaded text d.now
-        → IfOk result (λ o. o.free ≡ free_names always.now (flat_of text d.now)) }
+/// What the names of a document are over a registry, where some names are always set: each other name is an option where the registry
+/// has one of that name. An `Err` is want of memory.
+pub fn read_options(
+    alloc: Global,
+    d: &Document,
+    r: &Registry,
+    always: &[Bytes],
+) -> Result<Options, Memory>
+    ensures { IfOk result (AreOptionsOf always.now r.now d.now) }
 {
     let fixed = table_of(alloc, always)?;
-    let options = settings_over(alloc, &fixed, &d.names)?;
+    let options = settings_over(alloc, &fixed, r.options(), &d.names)?;
     Ok(options)
 }
 
-/// What names are over no registry, where those of a table are always set.
-fn settings_over(alloc: Global, fixed: &Names, names: &NameTable) -> Result<Options, Memory>
-    ensures settings { IfOk result (AreSettings fixed.now names.now) }
-    ensures free { IfOk result (λ o. o.free ≡ free_among fixed.now names.now) }
+/// What names are over options, where those of a table are always set.
+fn settings_over(
+    alloc: Global,
+    fixed: &Names,
+    options: &NameTable,
+    names: &NameTable,
+) -> Result<Options, Memory>
+    ensures count { IfOk result (λ o. o.count ≡ length options.now) }
+    ensures settings { IfOk result (λ o. AreSettings fixed.now options.now names.now o.each) }
 {
     let count = names.len();
-    let mut free = Vec::new(alloc);
     let mut settings = Vec::with_capacity(alloc, count as usize)?;
     for id in 0..count {
-        let name = names.name(NameId(id));
-        let setting = if fixed.find(name).is_some() {
-            Setting::Fixed
-        } else {
-            let option = OptionId(free.len() as u32);
-            free.push(Bytes::from_slice(alloc, name)?)?;
-            Setting::Free(option)
-        };
+        let setting = setting_over(fixed, options, names.name(NameId(id)));
         settings.push(setting)?;
     }
     Ok(Options {
-        names: free,
+        count: options.len(),
         settings,
     })
+}
+
+/// What a name is over options, where those of a table are always set.
+fn setting_over(fixed: &Names, options: &NameTable, name: &[u8]) -> Setting
+    ensures { IsSetting fixed.now options.now name.now result }
+{
+    if fixed.find(name).is_some() {
+        return Setting::Fixed;
+    }
+    match options.find(name) {
+        Some(option) => Setting::Free(OptionId(option.0)),
+        None => Setting::Unset,
+    }
+}
+
+/// The registry that stands for none: it declares nothing, and its options are the names of a document's conditions that aren't always
+/// set, in the order of first mention. An `Err` is want of memory.
+pub fn free_options(alloc: Global, d: &Document, always: &[Bytes]) -> Result<Registry, Memory>
+    requires { (text : List ℕ) × IsLoaded text d.now }
+    ensures { (text : List ℕ) → IsLoaded text d.now
+        → IfOk result (λ r. r ≡ bare_rows (free_names always.now (flat_of text d.now))) }
+{
+    let registry = bare_but(alloc, &d.names, always)?;
+    Ok(registry)
+}
+
+/// A registry that declares nothing, whose options are names, but for those that are always set.
+fn bare_but(alloc: Global, names: &NameTable, always: &[Bytes]) -> Result<Registry, Memory>
+    requires { All (λ name. is_name name ≡ true) names.now }
+    ensures { IfOk result (λ r. r ≡ bare_rows (free_among always.now names.now)) }
+{
+    let set = table_of(alloc, always)?;
+    let free = names_but(alloc, names, &set)?;
+    let registry = Registry::bare(alloc, free.as_slice())?;
+    Ok(registry)
+}
+
+/// The names that aren't always set, in order, where those of a table are.
+fn names_but(alloc: Global, names: &NameTable, fixed: &Names) -> Result<Vec<Bytes>, Memory>
+    ensures free { IfOk result (λ free. free.items ≡ free_among fixed.now names.now) }
+    ensures few { IfOk result (λ free. length free.items ≤ most_names) }
+    ensures differ { AreDifferent names.now }
+{
+    let mut free = Vec::new(alloc);
+    for id in 0..names.len() {
+        let name = names.name(NameId(id));
+        if fixed.find(name).is_none() {
+            free.push(Bytes::from_slice(alloc, name)?)?;
+        }
+    }
+    Ok(free)
 }
 
 /// A table of names, in which each is found by its hash.
@@ -126,4 +170,4 @@ fn table_of(alloc: Global, names: &[Bytes]) -> Result<Names, Memory>
 }
 
 #[cfg(test)]
-mod tests;
+pub mod tests;

@@ -1,10 +1,11 @@
-//! The search through all choices for the first link that one of them breaks.
+//! The search through all permitted choices for the first link that one of them breaks.
 ghost use Rattle.std.specs.Prelude.{◌≡◌, ℕ, ◌<◌, ◌≤◌, not, ◌&&◌, ◌==◌, All, Some, None, length, position, slice_get, slice_index, IfOk, IfSome, MatchOption};
 ghost use Rattle.vkb_formula.specs.Pools.{pool_reach, pool_values};
 ghost use Rattle.lift_check.specs.declared.survey.LinkSite.{LinkSite};
 ghost use Rattle.lift_check.specs.Choices.{most_options};
+ghost use Rattle.lift_check.specs.Keeping.{is_on};
 ghost use Rattle.lift_check.specs.Lines.{is_line_on};
-ghost use Rattle.lift_check.specs.Search.{IsFound, anchors_on, is_broken};
+ghost use Rattle.lift_check.specs.Search.{IsFound, anchors_on, is_broken_there};
 
 use crate::Memory;
 use crate::choices::choice_of;
@@ -24,11 +25,12 @@ pub struct Broken {
     pub count: u64,
 }
 
-/// Tries all choices of so many options, and gives the first link that one of them breaks. Each line has a node, which is true
-/// at the choices that keep the line. An `Err` is want of memory.
+/// Tries the choices of so many options at which a node is on, and gives the first link that one of them breaks. Each line has a
+/// node, which is on at the choices that keep the line. An `Err` is want of memory.
 pub fn search(
     alloc: Global,
     pool: &Pool,
+    permit: NodeId,
     nodes: &[NodeId],
     options: u32,
     ids: usize,
@@ -37,12 +39,13 @@ pub fn search(
 ) -> Result<Option<Broken>, Memory>
     requires few { options ≤ most_options }
     requires reach { pool_reach pool.now ≤ options }
+    requires permit { permit.0 < length pool.now }
     requires nodes { All (λ node. node.0 < length pool.now) nodes.now }
     requires anchor_lines { All (λ a. a.line.0 < length nodes.now) anchors.now }
     requires link_lines { All (λ l. l.place.line < length nodes.now) links.now }
     requires anchor_ids { All (λ a. a.id.0 < ids) anchors.now }
     requires link_ids { All (λ l. l.id.0 < ids) links.now }
-    ensures { IfOk result (IsFound pool.now nodes.now options anchors.now links.now) }
+    ensures { IfOk result (IsFound pool.now permit nodes.now options anchors.now links.now) }
 {
     let mut found = None;
     let mut ahead = links;
@@ -51,7 +54,7 @@ pub fn search(
             return Ok(found);
         }
         let choice = choice_of(alloc, options, number)?;
-        if let Some(broken) = try_choice(alloc, pool, nodes, choice, ids, anchors, ahead)? {
+        if let Some(broken) = try_choice(alloc, pool, permit, nodes, choice, ids, anchors, ahead)? {
             ahead = &ahead[..broken.link.0 as usize];
             found = Some(broken);
         }
@@ -59,10 +62,11 @@ pub fn search(
     Ok(found)
 }
 
-/// The first of the links that a choice breaks.
+/// The first of the links that a choice breaks, if the node is on there.
 fn try_choice(
     alloc: Global,
     pool: &Pool,
+    permit: NodeId,
     nodes: &[NodeId],
     choice: Vec<bool>,
     ids: usize,
@@ -70,19 +74,24 @@ fn try_choice(
     links: &[LinkSite],
 ) -> Result<Option<Broken>, Memory>
     requires reach { pool_reach pool.now ≤ length choice.items }
+    requires permit { permit.0 < length pool.now }
     requires nodes { All (λ node. node.0 < length pool.now) nodes.now }
     requires anchor_lines { All (λ a. a.line.0 < length nodes.now) anchors.now }
     requires link_lines { All (λ l. l.place.line < length nodes.now) links.now }
     requires anchor_ids { All (λ a. a.id.0 < ids) anchors.now }
     requires link_ids { All (λ l. l.id.0 < ids) links.now }
     ensures place { IfOk result (λ found. MatchOption found
-        (position (is_broken (pool_values choice.items pool.now) nodes.now anchors.now) links.now ≡ None)
-        (λ b. position (is_broken (pool_values choice.items pool.now) nodes.now anchors.now) links.now ≡ Some b.link.0)) }
+        (position (is_broken_there (pool_values choice.items pool.now) permit nodes.now anchors.now) links.now ≡ None)
+        (λ b. position (is_broken_there (pool_values choice.items pool.now) permit nodes.now anchors.now) links.now ≡ Some b.link.0)) }
     ensures choice { IfOk result (λ found. IfSome found (λ b. b.choice.items ≡ choice.items)) }
     ensures count { IfOk result (λ found. IfSome found (λ b. (link : LinkSite) → slice_get links.now b.link.0 ≡ Some link
         → b.count ≡ anchors_on (pool_values choice.items pool.now) nodes.now anchors.now link.id.0)) }
 {
     let values = pool.values(choice.as_slice())?;
+    let permitted = is_on(values.as_slice(), permit);
+    if !permitted {
+        return Ok(None);
+    }
     let counts = count_anchors(alloc, values.as_slice(), nodes, ids, anchors)?;
     let Some(place) = first_broken(values.as_slice(), nodes, counts.as_slice(), links) else {
         return Ok(None);
@@ -135,13 +144,21 @@ fn first_broken(
         && counts[link.id.0 as usize] != 1)
 }
 
+/// The value of a node.
+fn is_on(values: &[bool], node: NodeId) -> bool
+    requires { node.0 < length values.now }
+    ensures { result ≡ is_on values.now node }
+{
+    values[node.0 as usize]
+}
+
 /// The value of a line's node.
 fn line_is_on(values: &[bool], nodes: &[NodeId], line: u32) -> bool
     requires nodes { All (λ node. node.0 < length values.now) nodes.now }
     requires line { line < length nodes.now }
     ensures { result ≡ is_line_on values.now nodes.now line }
 {
-    values[nodes[line as usize].0 as usize]
+    is_on(values, nodes[line as usize])
 }
 
 #[cfg(test)]

@@ -47,7 +47,8 @@ pub struct Survey {
     pub links: Vec<LinkSite>,
 }
 
-/// Collects the anchors and links of a document that was loaded into this text, over no registry. An `Err` is want of memory.
+/// Collects the anchors and links of a document that was loaded into this text and includes no page of a
+/// declared name. An `Err` is want of memory.
 pub fn survey_document(alloc: Global, text: &Text, d: &Document) -> Result<Survey, Memory>
     requires there { All (IsLineIn text.now.bytes) d.now.lines }
     requires few { length d.now.lines < 2 ^ 32 }

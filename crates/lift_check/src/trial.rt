@@ -1,44 +1,52 @@
-//! The verdict by the search through all choices. It takes time that doubles with each option, and stays as the yardstick of a
+//! The verdict by the search through all permitted choices. It takes time that doubles with each option, and stays as the yardstick of a
 //! verdict that is found in less: it asks nothing but the value of each line's formula at each choice.
 ghost use Rattle.std.specs.Prelude.{◌≡◌, ◌^◌, ℕ, ◌<◌, ◌≤◌, List, All, length, map, IfOk, IfSome};
 ghost use Rattle.vkb_formula.specs.Pools.{pool_reach};
 ghost use Rattle.doc_tree.specs.Loaded.{IsLoaded, flat_of};
-ghost use Rattle.doc_build.specs.Choices.{bare_setting, free_names};
+ghost use Rattle.reg_registry.specs.Rows.{Rows};
+ghost use Rattle.doc_build.specs.Choices.{registry_setting};
 ghost use Rattle.doc_build.specs.Laws.{SetsNoPage};
 ghost use Rattle.lift_check.specs.Choices.{most_options};
 ghost use Rattle.lift_check.specs.Keeping.{node_of};
 ghost use Rattle.lift_check.specs.Lines.{AreLineNodes, AreOptionsOf, IsLineIn};
+ghost use Rattle.lift_check.specs.Permits.{SaysPermits};
 ghost use Rattle.lift_check.specs.Search.{IsVerdictBy};
 ghost use Rattle.lift_check.specs.Verdict.{IsVerdict};
 
 use crate::conditions::{Conditions, read_conditions};
 use crate::options::Options;
+use crate::permits::put_permit;
 use crate::search::{Broken, search};
 use crate::survey::{LinkSite, survey_document};
 use crate::{Memory, Verdict};
 use doc_build::{ids_as_written, kept_marks, marks_in_lines};
 use doc_tree::{DocLine, Document};
+use reg_registry::Registry;
 use std::alloc::Global;
 use vkb_bytes::{Bytes, Listed};
 use vkb_formula::{Names, NodeId, Pool};
 use vkb_text::Text;
 
-/// The verdict on all links of a document that was loaded into this text and has no line that sets the page, over no registry
-/// and all choices of its options, which are at most 12. An `Err` is want of memory.
+/// The verdict on all links of a document that was loaded into this text, has no line that sets the page and includes no page of a
+/// declared name, over all permitted choices of a registry's options, which are at most 12. `options` are what the names of the
+/// document are over this registry. An `Err` is want of memory.
 pub fn try_choices(
     alloc: Global,
     text: &Text,
     d: &Document,
+    r: &Registry,
     options: &Options,
 ) -> Result<Verdict, Memory>
     requires loaded { IsLoaded text.now.bytes d.now }
     requires unset { SetsNoPage (flat_of text.now.bytes d.now) }
-    requires few { length options.now.free ≤ most_options }
-    requires settings { (always : List (List ℕ)) × AreOptionsOf always text.now.bytes d.now options.now }
-    ensures { (always : List (List ℕ)) → AreOptionsOf always text.now.bytes d.now options.now
-        → IfOk result (IsVerdict (bare_setting always (flat_of text.now.bytes d.now)) (flat_of text.now.bytes d.now)) }
+    requires few { length r.now.options ≤ most_options }
+    requires settings { (always : List (List ℕ)) × AreOptionsOf always r.now d.now options.now }
+    ensures { (always : List (List ℕ)) → AreOptionsOf always r.now d.now options.now
+        → IfOk result (IsVerdict (registry_setting always r.now) (flat_of text.now.bytes d.now)) }
 {
-    let conditions = read_conditions(alloc, d, options)?;
+    r.is_sound();
+    let mut conditions = read_conditions(alloc, d, options)?;
+    let permit = put_permit(alloc, r, &mut conditions.pool)?;
     let nodes = line_nodes(alloc, d.lines.as_slice(), &conditions)?;
     let verdict = try_nodes(
         alloc,
@@ -46,6 +54,7 @@ pub fn try_choices(
         d,
         options.len(),
         &conditions.pool,
+        permit,
         nodes.as_slice(),
     )?;
     Ok(verdict)
@@ -67,13 +76,15 @@ fn line_nodes(
     Ok(nodes)
 }
 
-/// The verdict where each line of the document has a node in the pool, which is true at the choices that keep the line.
+/// The verdict where each line of the document has a node in the pool, which is on at the choices that keep the line, and one node is
+/// on at the choices that are permitted.
 fn try_nodes(
     alloc: Global,
     text: &Text,
     d: &Document,
     options: u32,
     pool: &Pool,
+    permit: NodeId,
     nodes: &[NodeId],
 ) -> Result<Verdict, Memory>
     requires there { All (IsLineIn text.now.bytes) d.now.lines }
@@ -81,11 +92,12 @@ fn try_nodes(
     requires unset { SetsNoPage (flat_of text.now.bytes d.now) }
     requires few { options ≤ most_options }
     requires reach { pool_reach pool.now ≤ options }
+    requires permit { permit.0 < length pool.now }
     requires count { length nodes.now ≡ length d.now.lines }
     requires within { All (λ node. node.0 < length pool.now) nodes.now }
-    ensures { IfOk result (λ verdict. (always : List (List ℕ)) → options ≡ length (free_names always (flat_of text.now.bytes d.now))
-        → AreLineNodes (bare_setting always (flat_of text.now.bytes d.now)) (flat_of text.now.bytes d.now) pool.now nodes.now
-        → IsVerdict (bare_setting always (flat_of text.now.bytes d.now)) (flat_of text.now.bytes d.now) verdict) }
+    ensures { IfOk result (λ verdict. (always : List (List ℕ)) (r : Rows) → options ≡ length r.options
+        → AreLineNodes (registry_setting always r) (flat_of text.now.bytes d.now) pool.now nodes.now → SaysPermits r pool.now permit
+        → IsVerdict (registry_setting always r) (flat_of text.now.bytes d.now) verdict) }
 {
     // What is searched is what the built texts have, by these laws.
     kept_marks();
@@ -95,6 +107,7 @@ fn try_nodes(
     let broken = search(
         alloc,
         pool,
+        permit,
         nodes,
         options,
         survey.ids.len(),

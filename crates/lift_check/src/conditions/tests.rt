@@ -1,5 +1,6 @@
 use super::read_conditions;
 use crate::options::read_options;
+use crate::options::tests::registry_of;
 use doc_cond::LineKind;
 use doc_tree::{Cond, CondId, DocLine, Document};
 use std::alloc::Global;
@@ -108,7 +109,8 @@ impl Draft {
 /// A `+` for each line that a choice keeps, and a `-` for each other, where `VK_F` is always set.
 fn kept_at(rt: &impl Abort, alloc: Global, d: &Document, choice: &[bool]) -> Result<Vec<u8>, Fail> {
     let always = [Bytes::from_slice(alloc, b"VK_F")?];
-    let options = read_options(alloc, d, always.as_slice())?;
+    let registry = registry_of(alloc, &d.names, always.as_slice())?;
+    let options = read_options(alloc, d, &registry, always.as_slice())?;
     assert!(rt; options.len() as usize == choice.len());
     let conditions = read_conditions(alloc, d, &options)?;
     let values = conditions.pool.values(choice)?;
@@ -215,7 +217,8 @@ fn innermost_is_met(
     let mut choice = Vec::new(alloc);
     let mut within = None;
     for number in 0..10_000u32 {
-        let name = draft.names.intern(number.to_be_bytes().as_slice())?;
+        let written = format!(in alloc; "{number}")?;
+        let name = draft.names.intern(written.as_bytes())?;
         draft.conds.push(Cond {
             negated: false,
             any: true,

@@ -1,5 +1,9 @@
-use super::{OptionId, Options, Setting, read_options};
+ghost use Rattle.std.specs.Prelude.{◌≡◌, true, All, IfOk};
+ghost use Rattle.reg_registry.specs.Words.{is_name};
+
+use super::{OptionId, Options, Setting, bare_but, read_options};
 use doc_tree::Document;
+use reg_registry::{Registry, is_name};
 use std::alloc::{AllocError, Global};
 use std::process::Abort;
 use std::test::Fail;
@@ -33,17 +37,38 @@ fn words(alloc: Global, text: &str) -> Result<Vec<Bytes>, AllocError> {
     Ok(words)
 }
 
-/// The names of the options, with a space behind each.
-fn option_names(alloc: Global, options: &Options) -> Result<Vec<u8>, AllocError> {
+/// The names of a table that a registry can have, in order.
+fn named(alloc: Global, names: &NameTable) -> Result<NameTable, NameFault>
+    ensures { IfOk result (λ kept. All (λ name. is_name name ≡ true) kept) }
+{
+    let mut kept = NameTable::new(alloc);
+    for id in 0..names.len() {
+        let name = names.name(NameId(id));
+        if is_name(name) {
+            kept.intern(name)?;
+        }
+    }
+    Ok(kept)
+}
+
+/// A registry that declares nothing, whose options are these names but for those that are always set.
+pub fn registry_of(alloc: Global, names: &NameTable, always: &[Bytes]) -> Result<Registry, Fail> {
+    let names = named(alloc, names)?;
+    let registry = bare_but(alloc, &names, always)?;
+    Ok(registry)
+}
+
+/// The names of a registry's options, with a space behind each.
+fn option_names(alloc: Global, r: &Registry) -> Result<Vec<u8>, AllocError> {
     let mut text = Vec::new(alloc);
-    for option in 0..options.len() {
-        text.extend_from_slice(options.name(OptionId(option)))?;
+    for option in 0..r.options().len() {
+        text.extend_from_slice(r.options().name(NameId(option)))?;
         text.push(b' ')?;
     }
     Ok(text)
 }
 
-/// Asserts which of the mentioned names are options, where the words of `always` are always set.
+/// Asserts which of the mentioned names are options over no registry, where the words of `always` are always set.
 fn has_options(
     rt: &impl Abort,
     alloc: Global,
@@ -53,8 +78,8 @@ fn has_options(
 ) -> Result<(), Fail> {
     let d = mentioning(alloc, mentioned)?;
     let always = words(alloc, always)?;
-    let options = read_options(alloc, &d, always.as_slice())?;
-    let found = option_names(alloc, &options)?;
+    let registry = registry_of(alloc, &d.names, always.as_slice())?;
+    let found = option_names(alloc, &registry)?;
     assert_eq!(rt; found.as_slice(), want.as_bytes(), "at {mentioned:?}");
     Ok(())
 }
@@ -71,18 +96,26 @@ fn options_are_the_names_that_are_not_always_set(rt: HostRuntime) -> Result<(), 
     has_options(&rt, alloc, "VK_a VK_A VK_", "VK_A", "VK_a VK_ ")
 }
 
+/// What the words of `mentioned` are over the options of `offered`, where the words of `always` are always set.
+fn settings(alloc: Global, mentioned: &str, offered: &str, always: &str) -> Result<Options, Fail> {
+    let d = mentioning(alloc, mentioned)?;
+    let offers = mentioning(alloc, offered)?;
+    let registry = registry_of(alloc, &offers.names, &[])?;
+    let always = words(alloc, always)?;
+    let options = read_options(alloc, &d, &registry, always.as_slice())?;
+    Ok(options)
+}
+
 #[test]
 fn each_name_has_its_setting(rt: HostRuntime) -> Result<(), Fail> {
-    let alloc = rt.alloc();
-    let d = mentioning(alloc, "C A D B")?;
-    let always = words(alloc, "A X")?;
-    let options = read_options(alloc, &d, always.as_slice())?;
-    assert_eq!(rt; options.len(), 3);
-    assert_eq!(rt; options.setting_of(NameId(0)), Setting::Free(OptionId(0)));
+    let options = settings(rt.alloc(), "C A D B E", "B C A F", "A X E")?;
+    assert_eq!(rt; options.len(), 4);
+    assert_eq!(rt; options.setting_of(NameId(0)), Setting::Free(OptionId(1)));
     assert_eq!(rt; options.setting_of(NameId(1)), Setting::Fixed);
-    assert_eq!(rt; options.setting_of(NameId(2)), Setting::Free(OptionId(1)));
-    assert_eq!(rt; options.setting_of(NameId(3)), Setting::Free(OptionId(2)));
-    assert_eq!(rt; options.setting_of(NameId(4)), Setting::Unset);
+    assert_eq!(rt; options.setting_of(NameId(2)), Setting::Unset);
+    assert_eq!(rt; options.setting_of(NameId(3)), Setting::Free(OptionId(0)));
+    assert_eq!(rt; options.setting_of(NameId(4)), Setting::Fixed);
+    assert_eq!(rt; options.setting_of(NameId(5)), Setting::Unset);
     Ok(())
 }
 
@@ -92,10 +125,10 @@ fn ten_thousand_names_are_read(rt: HostRuntime) -> Result<(), Fail> {
     let mut names = NameTable::new(alloc);
     let mut always = Vec::new(alloc);
     for number in 0..10_000u32 {
-        let name = number.to_be_bytes();
-        names.intern(name.as_slice())?;
+        let name = format!(in alloc; "{number}")?;
+        names.intern(name.as_bytes())?;
         if number % 2 == 0 {
-            always.push(Bytes::from_slice(alloc, name.as_slice())?)?;
+            always.push(Bytes::from_slice(alloc, name.as_bytes())?)?;
         }
     }
     let d = Document {
@@ -104,16 +137,13 @@ fn ten_thousand_names_are_read(rt: HostRuntime) -> Result<(), Fail> {
         conds: Listed::from_vec(Vec::new(alloc)),
         lines: Listed::from_vec(Vec::new(alloc)),
     };
-    let options = read_options(alloc, &d, always.as_slice())?;
+    let registry = registry_of(alloc, &d.names, always.as_slice())?;
+    let options = read_options(alloc, &d, &registry, always.as_slice())?;
     assert!(rt; options.len() == 5_000);
     assert_eq!(rt; options.setting_of(NameId(9_998)), Setting::Fixed);
     assert_eq!(rt;
         options.setting_of(NameId(9_999)),
         Setting::Free(OptionId(4_999))
-    );
-    assert_eq!(rt;
-        options.name(OptionId(4_999)),
-        9_999u32.to_be_bytes().as_slice()
     );
     Ok(())
 }

@@ -58,7 +58,25 @@ fn link(id: u64, line: u32) -> LinkSite
 }
 
 /// What is found in four lines, which are kept always, where the first option is chosen, where the second is, and where the first
-/// isn't. There are two ids.
+/// isn't, at the choices that keep one of them. There are two ids.
+fn found_where(
+    alloc: Global,
+    permit: NodeId,
+    anchors: &[AnchorSite],
+    links: &[LinkSite],
+) -> Result<Option<Broken>, Memory>
+    requires permit { permit.0 < 4 }
+    requires anchor_lines { All (λ a. a.line.0 < 4) anchors.now }
+    requires link_lines { All (λ l. l.place.line < 4) links.now }
+    requires anchor_ids { All (λ a. a.id.0 < 2) anchors.now }
+    requires link_ids { All (λ l. l.id.0 < 2) links.now }
+{
+    let pool = two_options(alloc)?;
+    let nodes = four_lines();
+    search(alloc, &pool, permit, &nodes, 2, 2, anchors, links)
+}
+
+/// The same at all choices.
 fn found(
     alloc: Global,
     anchors: &[AnchorSite],
@@ -69,9 +87,7 @@ fn found(
     requires anchor_ids { All (λ a. a.id.0 < 2) anchors.now }
     requires link_ids { All (λ l. l.id.0 < 2) links.now }
 {
-    let pool = two_options(alloc)?;
-    let nodes = four_lines();
-    search(alloc, &pool, &nodes, 2, 2, anchors, links)
+    found_where(alloc, NodeId(0), anchors, links)
 }
 
 /// Whether this is what was found.
@@ -117,6 +133,21 @@ fn the_first_link_is_found_where_a_later_choice_breaks_it(rt: HostRuntime) -> Re
 }
 
 #[test]
+fn only_permitted_choices_are_tried(rt: HostRuntime) -> Result<(), Fail> {
+    let alloc = rt.alloc();
+    let anchors = [anchor(0, 3)];
+    let links = [link(0, 2), link(0, 1)];
+    // The first link breaks only where both options are chosen, the second wherever the first is.
+    let without = found_where(alloc, NodeId(3), &anchors, &links)?;
+    assert!(rt; without.is_none());
+    let with = found_where(alloc, NodeId(1), &anchors, &links)?;
+    assert!(rt; is_broken(&with, 0, &[true, true], 0));
+    let later = found_where(alloc, NodeId(1), &anchors, &[link(0, 3), link(0, 1)])?;
+    assert!(rt; is_broken(&later, 1, &[true, false], 0));
+    Ok(())
+}
+
+#[test]
 fn two_anchors_are_counted(rt: HostRuntime) -> Result<(), Fail> {
     let anchors = [anchor(0, 0), anchor(1, 0), anchor(0, 1)];
     let found = found(rt.alloc(), &anchors, &[link(1, 0), link(0, 2)])?;
@@ -130,9 +161,18 @@ fn without_options_there_is_one_choice(rt: HostRuntime) -> Result<(), Fail> {
     let mut pool = Pool::new(alloc);
     pool.put(PoolNode::Always)?;
     let nodes = [NodeId(0)];
-    let whole = search(alloc, &pool, &nodes, 0, 1, &[anchor(0, 0)], &[link(0, 0)])?;
+    let whole = search(
+        alloc,
+        &pool,
+        NodeId(0),
+        &nodes,
+        0,
+        1,
+        &[anchor(0, 0)],
+        &[link(0, 0)],
+    )?;
     assert!(rt; whole.is_none());
-    let broken = search(alloc, &pool, &nodes, 0, 1, &[], &[link(0, 0)])?;
+    let broken = search(alloc, &pool, NodeId(0), &nodes, 0, 1, &[], &[link(0, 0)])?;
     assert!(rt; is_broken(&broken, 0, &[], 0));
     Ok(())
 }

@@ -13,16 +13,18 @@ use std::test::Fail;
 use vkb_formula::{NodeId, Pool, PoolNode};
 use vkb_text::Text;
 
-/// The verdict on a chapter of which each line has a node in a pool of some options.
+/// The verdict on a chapter of which each line has a node in a pool of some options, where a node is on at the permitted choices.
 fn verdict_over(
     alloc: Global,
     chapter: &[u8],
     options: u32,
     pool: &Pool,
+    permit: NodeId,
     nodes: &[NodeId],
 ) -> Result<Verdict, Memory>
     requires few { options ≤ most_options }
     requires reach { pool_reach pool.now ≤ options }
+    requires permit { permit.0 < length pool.now }
     requires within { All (λ node. node.0 < length pool.now) nodes.now }
 {
     let mut text = Text::new(alloc, 1_000_000);
@@ -30,16 +32,29 @@ fn verdict_over(
     if nodes.len() != d.lines.as_slice().len() {
         return Err(Memory);
     }
-    try_nodes(alloc, &text, &d, options, pool, nodes)
+    try_nodes(alloc, &text, &d, options, pool, permit, nodes)
 }
 
-/// The verdict on a chapter of which each line has a node: 0 is kept always, 1 where the first of two options is chosen, 2 where
-/// the second is, and 3 where the first isn't.
+/// The verdict on a chapter of which each line has a node: 0 is on always, 1 where the first of two options is chosen, 2 where
+/// the second is, and 3 where the first isn't. One of them is on at the permitted choices.
+fn verdict_where(
+    alloc: Global,
+    chapter: &str,
+    permit: NodeId,
+    nodes: &[NodeId],
+) -> Result<Verdict, Memory>
+    requires permit { permit.0 < 4 }
+    requires within { All (λ node. node.0 < 4) nodes.now }
+{
+    let pool = two_options(alloc)?;
+    verdict_over(alloc, chapter.as_bytes(), 2, &pool, permit, nodes)
+}
+
+/// The same over all choices.
 fn verdict(alloc: Global, chapter: &str, nodes: &[NodeId]) -> Result<Verdict, Memory>
     requires { All (λ node. node.0 < 4) nodes.now }
 {
-    let pool = two_options(alloc)?;
-    verdict_over(alloc, chapter.as_bytes(), 2, &pool, nodes)
+    verdict_where(alloc, chapter, NodeId(0), nodes)
 }
 
 fn is_yes(verdict: &Verdict, want: u64) -> bool {
@@ -134,6 +149,18 @@ fn the_first_link_that_a_choice_breaks_is_named(rt: HostRuntime) -> Result<(), F
     Ok(())
 }
 
+#[test]
+fn choices_that_are_not_permitted_break_nothing(rt: HostRuntime) -> Result<(), Fail> {
+    let alloc = rt.alloc();
+    let chapter = "[[a]]\n[[a]]\n<<a>>\n";
+    let nodes = [NodeId(0), NodeId(1), NodeId(2)];
+    let without = verdict_where(alloc, chapter, NodeId(3), &nodes)?;
+    assert!(rt; is_yes(&without, 1));
+    let with = verdict_where(alloc, chapter, NodeId(1), &nodes)?;
+    assert!(rt; is_no(&with, 2, 0, b"a", &[true, true], 2));
+    Ok(())
+}
+
 /// Nodes of so many lines: the second line has the node 1, and each other the node 0.
 fn nodes_but_one(alloc: Global, count: usize) -> Result<Vec<NodeId>, Memory>
     requires { 1 < count }
@@ -165,7 +192,14 @@ fn twelve_options_and_a_thousand_links_are_tried(rt: HostRuntime) -> Result<(), 
         chapter.extend_from_slice(b"<<b>>\n")?;
     }
     chapter.extend_from_slice(b"<<a>>\n")?;
-    let found = verdict_over(alloc, chapter.as_slice(), 12, &pool, nodes.as_slice())?;
+    let found = verdict_over(
+        alloc,
+        chapter.as_slice(),
+        12,
+        &pool,
+        NodeId(0),
+        nodes.as_slice(),
+    )?;
     let last = [
         false, false, false, false, false, false, false, false, false, false, false, true,
     ];

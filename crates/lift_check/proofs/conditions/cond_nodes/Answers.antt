@@ -1,4 +1,4 @@
-use Rattle.std.proofs.Common.{◌≡◌, ◌∙◌, ◌+◌, ◌++◌, ◌∷◌, [], ◌&&◌, ap, sym, subst, Bool, List, take, length}
+use Rattle.std.proofs.Common.{◌≡◌, ◌∙◌, ◌+◌, ◌++◌, ◌∷◌, [], ◌&&◌, ap, sym, subst, Bool, List, take}
 use Rattle.vkb_formula.specs.Pools.{pool_values}
 use Rattle.vkb_formula.specs.declared.pool.NodeId.{NodeId}
 use Rattle.doc_build.specs.Choices.{Choice}
@@ -10,7 +10,7 @@ use Rattle.lift_check.proofs.conditions.cond_nodes.Goals as goal
 
 pub inner_node-requires-clause-holds : goal.inner_node-requires-clause-holds
 inner_node-requires-clause-holds c =
-    HoldsOptions-keeps (length c.args.options.now.free) c.args.pool.now c.loop-cond.pool c.requires c.loop-cond.invariant.keeps
+    HoldsOptions-keeps c.args.options.now.count c.args.pool.now c.loop-cond.pool c.requires c.loop-cond.invariant.keeps
 
 pub loop-cond-preserved : goal.loop-cond-preserved
 loop-cond-preserved c =
@@ -21,7 +21,7 @@ loop-cond-preserved c =
     let first = c.args.pool.now in
     let old = c.loop-cond.pool in
     let items = c.loop-cond.nodes.items in
-    let holds = HoldsOptions-keeps (length options.free) first old c.requires c.loop-cond.invariant.keeps in
+    let holds = HoldsOptions-keeps options.count first old c.requires c.loop-cond.invariant.keeps in
     let made = λ (choice : Choice). met_from (meets options choice) [] (take index conds) in
     let around : (choice : Choice) → is_on (pool_values choice old) c.node_in-around.result ≡ met_at (made choice) here.within = λ choice.
     ap (is_on (pool_values choice old)) (c.node_in-around.ensures ∙ ap (λ (ns : List NodeId). node_in ns here.within) c.as_slice.ensures.value)

@@ -1,10 +1,10 @@
-use Rattle.std.proofs.Common.{refl, length}
+use Rattle.std.proofs.Common.{refl}
 use Rattle.lift_check.proofs.NodesLemmas.{HoldsOptions-keeps, IfOk-both}
 use Rattle.lift_check.proofs.conditions.inner_node.Goals as goal
 
 pub both-requires-clause-always : goal.both-requires-clause-always
 both-requires-clause-always c =
-    (HoldsOptions-keeps (length c.args.options.now.free) c.args.pool.now c.own_node.new.pool c.requires.holds c.in_ok-own.ensures.keeps).always
+    (HoldsOptions-keeps c.args.options.now.count c.args.pool.now c.own_node.new.pool c.requires.holds c.in_ok-own.ensures.keeps).always
 
 pub returns : goal.returns
 returns c =

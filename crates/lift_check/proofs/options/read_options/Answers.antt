@@ -1,15 +1,15 @@
-use Rattle.std.proofs.Common.{◌∙◌}
-use Rattle.lift_check.proofs.OptionsLemmas.{AreSettings-alike, free-loaded, free_among-alike}
+use Rattle.std.proofs.Common.{◌≡◌, ◌∙◌, List, ℕ, length, ap, subst}
+use Rattle.lift_check.specs.Options.{AreSettings}
+use Rattle.lift_check.proofs.OptionsLemmas.{AreSettings-alike}
 use Rattle.lift_check.proofs.options.read_options.Goals as goal
 
-pub returns-clause-settings : goal.returns-clause-settings
-returns-clause-settings c =
-    AreSettings-alike c.in_ok-fixed.fixed c.args.always.now c.in_ok-fixed.ensures c.args.d.now.names c.in_ok-options.options c.in_ok-options.ensures.settings
-
-pub returns-clause-free : goal.returns-clause-free
-returns-clause-free c =
-    c.in_ok-options.ensures.free ∙ free_among-alike c.in_ok-fixed.fixed c.args.always.now c.in_ok-fixed.ensures c.args.d.now.names
-
-pub returns-clause-loaded : goal.returns-clause-loaded
-returns-clause-loaded c = λ text loaded.
-    c.in_ok-options.ensures.free ∙ (free_among-alike c.in_ok-fixed.fixed c.args.always.now c.in_ok-fixed.ensures c.args.d.now.names ∙ free-loaded c.args.always.now text c.args.d.now loaded)
+pub returns : goal.returns
+returns c =
+    let names = c.args.d.now.names in
+    let settings = c.in_ok-options.options.each in
+    let same : c.options.result.now ≡ c.args.r.now.options = c.options.ensures in
+    record {
+      count = c.in_ok-options.ensures.count ∙ ap length same;
+      each = subst (λ (options : List (List ℕ)). AreSettings c.args.always.now options names settings) same
+          (AreSettings-alike c.in_ok-fixed.fixed c.args.always.now c.in_ok-fixed.ensures c.options.result.now names settings c.in_ok-options.ensures.settings);
+    }

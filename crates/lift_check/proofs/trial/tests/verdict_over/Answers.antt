@@ -1,4 +1,4 @@
-use Rattle.std.proofs.Common.{◌≡◌, [], All}
+use Rattle.std.proofs.Common.{◌≡◌, []}
 use Rattle.std.proofs.lemmas.List.Elements.{All-map}
 use Rattle.doc_build.specs.Ids.{page_set}
 use Rattle.doc_tree.specs.Flat.{FlatLine}
