@@ -25,8 +25,8 @@ answered words files effect (misplaced position is) request spelled faults = abs
 answered words files effect (refused other fault asked is) request spelled faults =
     let none : HasNoFault other files = subst (λ (r : Request). HasNoFault r files) (same_request words request other spelled asked) faults in
     absurd (none fault is)
-answered words files effect (checked registry root api always lines (Yes links) asked none is judged) request spelled faults = inl refl
-answered words files effect (checked registry root api always lines (No place id choice count) asked none is judged) request spelled faults = inr refl
+answered words files effect (checked registry root api always r lines (Yes links) asked none is judged) request spelled faults = inl refl
+answered words files effect (checked registry root api always r lines (No place id choice count) asked none is judged) request spelled faults = inr refl
 answered words files effect (tagged first names pages asked none tells) request spelled faults = inl refl
 
 pub is_complete : (words : List (List ℕ)) (files : Files) (status : Status) (old new : World) → Ending words files status old new → IsComplete words files status old new

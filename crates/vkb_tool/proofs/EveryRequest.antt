@@ -1,5 +1,5 @@
 -- Words are those of a request, or one of them is the first that has no place.
-use Rattle.std.proofs.Common.{◌≡◌, ◌≢◌, ℕ, zero, suc, ◌+◌, ◌-◌, ◌≤◌, ◌⊎◌, List, [], ◌∷◌, ◌++◌, length, take, drop, map, Option, Some, None, slice_get, codes, refl, sym, ap, ◌∙◌, subst, arith, append_assoc, inl, inr, All}
+use Rattle.std.proofs.Common.{◌≡◌, ◌≢◌, ℕ, zero, suc, ◌+◌, ◌-◌, ◌≤◌, ◌⊎◌, List, [], ◌∷◌, ◌++◌, length, take, drop, map, Option, Some, None, slice_get, codes, true, refl, sym, ap, ◌∙◌, subst, arith, append_assoc, inl, inr, All}
 use Rattle.std.specs.Str.{is_utf8}
 use Rattle.std.specs.Cmp.Lexicographic.{bytes_decides}
 use Rattle.std.specs.Str.{bytes_eq}
@@ -11,11 +11,11 @@ use Rattle.std.proofs.lemmas.Str.{IsUtf8-from_is_utf8, is_utf8-from_IsUtf8}
 use Rattle.doc_cond.specs.Lines.{is_name_byte, is_run}
 use Rattle.vkb_bytes.specs.Numbers.{numeral_of}
 use Rattle.vkb_formula.specs.Names.{AreDifferent}
-use Rattle.vkb_tool.specs.Reading.{IsNoAttribute, IsNoFile, IsNumbered, SetsAttributes}
-use Rattle.vkb_tool.specs.Words.{IsAttribute, IsFileName, IsMisplaced, Spells, WritesFirst, attribute_word}
+use Rattle.vkb_tool.specs.Reading.{IsNoAttribute, IsNoFile, IsNumbered, SetsAttributes, goes_with, registry_by}
+use Rattle.vkb_tool.specs.Words.{IsApiOf, IsAttribute, IsFileName, IsMisplaced, Spells, WritesFirst, attribute_word}
 use Rattle.vkb_tool.specs.declared.words.Request.{Request}
 use Rattle.vkb_tool.specs.declared.words.Request.TheVariants.{Check, Tag}
-use Rattle.vkb_tool.proofs.WordsLemmas.{check_words, front_1, front_2, front_3, front_4, is_name_a, misplaced_early, misplaced_first, no_attribute_at}
+use Rattle.vkb_tool.proofs.WordsLemmas.{check_words, front_4, goes_back, misplaced_first, misplaced_fourth, misplaced_second, misplaced_third, no_attribute_at}
 use Rattle.vkb_tool.proofs.TagWordsLemmas.{first_two, no_file_at, no_file_named, no_number, tag_words}
 
 -- bytes are the same or not
@@ -102,29 +102,39 @@ read_rest words front names (word ∷ rest) front_is four set split =
     ]
 
 -- words whose first four are those of a check
-read_attributes : (words : List (List ℕ)) (root : List ℕ) → IsFileName root → take 4 words ≡ check_words root [] → 4 ≤ length words
+read_attributes : (words : List (List ℕ)) (registry : Option (List ℕ)) (root api : List ℕ) → IsApiOf registry api → IsFileName root → take 4 words ≡ check_words registry root api [] → 4 ≤ length words
     → ((request : Request) × Spells words request) ⊎ ((position : ℕ) × IsMisplaced words position)
-read_attributes words root name front four =
+read_attributes words registry root api goes name front four =
     let long : 4 ≤ length (take 4 words) = simp length-take (omega arith) in
     elim (read_rest words (take 4 words) [] (drop 4 words) (sym (append-nil (take 4 words))) long (All-nil IsAttribute) (sym (take-append-drop 4 words))) [
       | inl found ↦
           inl (
-            Check None root (codes "-") found.0,
-            (refl, name, found.1.names_are, found.1.words_are ∙ ap (λ (ws : List (List ℕ)). ws ++ map attribute_word found.0) front),
+            Check registry root api found.0,
+            (goes, name, found.1.names_are, found.1.words_are ∙ ap (λ (ws : List (List ℕ)). ws ++ map attribute_word found.0) front),
           )
-      | inr wrong ↦ inr (wrong.0, no_attribute_at words root wrong.0 name front wrong.1)
+      | inr wrong ↦ inr (wrong.0, no_attribute_at words registry root api wrong.0 goes name front wrong.1)
+    ]
+
+-- what is found is an API that goes with the word of a registry, or not
+goes_or_not : (found : Option (List ℕ)) (registry : List ℕ) → ((api : List ℕ) × (found ≡ Some api) × (goes_with registry api ≡ true)) ⊎ ((api : List ℕ) → found ≡ Some api → ¬ (goes_with registry api ≡ true))
+goes_or_not None registry = inr (λ api e is. none-some api e)
+goes_or_not (Some api) registry =
+    elim (cases_Bool (goes_with registry api)) [
+      | inl goes ↦ inl (api, refl, goes)
+      | inr not_so ↦ inr (λ other e is. false≢true (sym not_so ∙ ap (goes_with registry) (same_Some api other e) ∙ is))
     ]
 
 -- the words of a check, or one of them is the first that has no place
 every_check : (words : List (List ℕ)) → slice_get words 0 ≡ Some (codes "check") → ((request : Request) × Spells words request) ⊎ ((position : ℕ) × IsMisplaced words position)
 every_check words first =
-    elim (is_or_not (slice_get words 1) (codes "-")) [
-      | inr not_so ↦ inr (2, misplaced_early words 1 (97 ∷ []) is_name_a (omega arith) (omega arith) (front_1 words (97 ∷ []) first) (λ other names name e. not_so e))
-      | inl second ↦ elim (named_or_not (slice_get words 2)) [
-        | inr not_so ↦ inr (3, misplaced_early words 2 (97 ∷ []) is_name_a (omega arith) (omega arith) (front_2 words (97 ∷ []) first second) (λ other names name e. not_so other e name))
-        | inl (root, third, name) ↦ elim (is_or_not (slice_get words 3) (codes "-")) [
-          | inr not_so ↦ inr (4, misplaced_early words 3 root name (omega arith) (omega arith) (front_3 words root first second third) (λ other names is e. not_so e))
-          | inl fourth ↦ read_attributes words root name (front_4 words root first second third fourth) (slice_get_within words 3 (codes "-") fourth)
+    elim (named_or_not (slice_get words 1)) [
+      | inr not_so ↦ inr (2, misplaced_second words first (λ name is. not_so name is.0 is.1))
+      | inl (registry, second, file) ↦ elim (named_or_not (slice_get words 2)) [
+        | inr not_so ↦ inr (3, misplaced_third words registry first (second, file) (λ name is. not_so name is.0 is.1))
+        | inl (root, third, name) ↦ elim (goes_or_not (slice_get words 3) registry) [
+          | inr not_so ↦ inr (4, misplaced_fourth words registry root first (second, file) (third, name) (λ api is. not_so api is.0 is.1))
+          | inl (api, fourth, goes) ↦
+              read_attributes words (registry_by registry) root api (goes_back registry api file goes) name (front_4 words registry root api first second third fourth) (slice_get_within words 3 api fourth)
         ]
       ]
     ]

@@ -5,7 +5,11 @@ use Rattle.std.proofs.lemmas.List.Elements.{All-cons, All-nil}
 use Rattle.doc_tree.specs.Flat.{FlatLine}
 use Rattle.doc_build.specs.declared.Place.{Place}
 use Rattle.doc_build.specs.Breaks.{Breaks, IsSound}
-use Rattle.doc_build.specs.Choices.{Choice, bare_setting, free_names}
+use Rattle.reg_registry.specs.Laws.{AreWithin}
+use Rattle.reg_registry.specs.Rows.{Rows}
+use Rattle.reg_permit.specs.Laws.{PermittedOrNot}
+use Rattle.reg_permit.specs.Permitted.{IsPermitted}
+use Rattle.doc_build.specs.Choices.{Choice, registry_setting}
 use Rattle.doc_build.specs.Pieces.{Link, all_links, count_of, link_id, links_of, pieces_of}
 use Rattle.lift_check.specs.Verdict.{IsVerdict}
 use Rattle.lift_check.specs.declared.Verdict.{Verdict}
@@ -115,36 +119,54 @@ first_or_none A Good Bad decide (x ∷ all) =
       ]
     ]
 
-module _ (always : List (List ℕ)) (lines : List FlatLine) where
+module _ (permitted_or_not : PermittedOrNot) (always : List (List ℕ)) (r : Rows) (lines : List FlatLine) (within : AreWithin r.rows) where
   -- a choice breaks a link or not
-  breaks_or_not : (link : Link) (choice : Choice) → Breaks (bare_setting always lines) lines choice link ⊎ (¬ Breaks (bare_setting always lines) lines choice link)
+  breaks_or_not : (link : Link) (choice : Choice) → Breaks (registry_setting always r) lines choice link ⊎ (¬ Breaks (registry_setting always r) lines choice link)
   breaks_or_not link choice =
-      elim (among_or_not (links_of (pieces_of (bare_setting always lines) lines choice)) link) [
+      elim (among_or_not (links_of (pieces_of (registry_setting always r) lines choice)) link) [
         | inr none ↦ inr (λ breaks. none breaks.stands)
-        | inl stands ↦ elim (cases_eq (count_of (bare_setting always lines) lines choice (link_id (bare_setting always lines) lines choice link)) 1) [
+        | inl stands ↦ elim (cases_eq (count_of (registry_setting always r) lines choice (link_id (registry_setting always r) lines choice link)) 1) [
           | inl one ↦ inr (λ breaks. breaks.count one)
           | inr other ↦ inl (record { stands = stands; count = other })
         ]
       ]
 
+  -- a choice that the registry permits, where it has a value for each option, breaks a link
+  abbrev BreaksAt : Link → Choice → Type 0
+  BreaksAt link choice = IsPermitted r choice × Breaks (registry_setting always r) lines choice link
+
+  breaks_there_or_not : (link : Link) (choice : Choice) → BreaksAt link choice ⊎ (¬ BreaksAt link choice)
+  breaks_there_or_not link choice =
+      elim (permitted_or_not r choice within) [
+        | inr refused ↦ inr (λ breaks. refused breaks.0)
+        | inl permitted ↦ elim (breaks_or_not link choice) [
+          | inl breaks ↦ inl (permitted, breaks)
+          | inr holds ↦ inr (λ breaks. holds breaks.1)
+        ]
+      ]
+
   -- a permitted choice that breaks a link
   abbrev IsBroken : Link → Type 0
-  IsBroken link = (choice : Choice) × (length choice ≡ length (free_names always lines)) × Breaks (bare_setting always lines) lines choice link
+  IsBroken link = (choice : Choice) × (length choice ≡ length r.options) × BreaksAt link choice
 
-  broken_or_sound : (link : Link) → IsBroken link ⊎ IsSound (bare_setting always lines) lines link
-  broken_or_sound link = some_choice (length (free_names always lines)) (λ choice. Breaks (bare_setting always lines) lines choice link) (breaks_or_not link)
+  broken_or_sound : (link : Link) → IsBroken link ⊎ IsSound (registry_setting always r) lines link
+  broken_or_sound link =
+      elim (some_choice (length r.options) (BreaksAt link) (breaks_there_or_not link)) [
+        | inl broken ↦ inl broken
+        | inr none ↦ inr (λ choice permits breaks. none choice permits.0 (permits.1, breaks))
+      ]
 
   -- each document has a verdict
-  pub every_verdict : (verdict : Verdict) × IsVerdict (bare_setting always lines) lines verdict
+  pub every_verdict : (verdict : Verdict) × IsVerdict (registry_setting always r) lines verdict
   every_verdict =
-      let all = all_links (bare_setting always lines) lines in
-      elim (first_or_none Link (IsSound (bare_setting always lines) lines) IsBroken broken_or_sound all) [
+      let all = all_links (registry_setting always r) lines in
+      elim (first_or_none Link (IsSound (registry_setting always r) lines) IsBroken broken_or_sound all) [
         | inr sound ↦ (Yes (length all), (refl, sound))
         | inl is ↦
             let link = is.first in
             let choice = is.bad.0 in
-            let id = link_id (bare_setting always lines) lines choice link in (
-              No link.place id choice (count_of (bare_setting always lines) lines choice id),
-              record { before = is.before; link = link; after = is.after; here = is.here; first = is.good; permitted = is.bad.1; broken = is.bad.2; place_is = refl; id_is = refl; counted = refl },
+            let id = link_id (registry_setting always r) lines choice link in (
+              No link.place id choice (count_of (registry_setting always r) lines choice id),
+              record { before = is.before; link = link; after = is.after; here = is.here; first = is.good; permitted = (is.bad.1, is.bad.2.0); broken = is.bad.2.1; place_is = refl; id_is = refl; counted = refl },
             )
       ]

@@ -1,5 +1,5 @@
 -- Words and files come to something, whatever they are.
-use Rattle.std.proofs.Common.{inl, inr, ◌≡◌, ◌⊎◌, ℕ, zero, suc, ◌<◌, ◌≤◌, List, [], ◌∷◌, length, Option, Some, None, slice_get, false, refl, ap, subst, arith}
+use Rattle.std.proofs.Common.{inl, inr, ◌≡◌, ◌⊎◌, ℕ, zero, suc, ◌<◌, ◌≤◌, List, [], ◌∷◌, length, Option, Some, None, slice_get, false, refl, ap, subst, arith, All}
 use Rattle.std.proofs.lemmas.Bool.{cases_Bool, cases_lt}
 use Rattle.std.proofs.lemmas.List.Elements.{All-cons, All-nil}
 use Rattle.std.proofs.lemmas.Option.{same_Some}
@@ -8,93 +8,119 @@ use Rattle.doc_tree.specs.Fault.{Fault as DocumentFault}
 use Rattle.doc_tree.specs.Flat.{FlatLine}
 use Rattle.doc_tree.specs.Sources.{AreSources, Sources}
 use Rattle.doc_tree.specs.Walk.{IsDocument, IsFaultOf, first_fault, taken, walk}
-use Rattle.doc_build.specs.Choices.{bare_setting, free_names}
+use Rattle.vkb_formula.specs.declared.name_table.NameId.{NameId}
+use Rattle.reg_reader.specs.Laws.{OneAnswer}
+use Rattle.reg_registry.specs.Laws.{AreWithin}
+use Rattle.reg_registry.specs.Rows.{Rows, bare_rows}
+use Rattle.reg_registry.specs.declared.registry.Row.{Row}
+use Rattle.reg_forms.specs.Forms.{forms_of}
+use Rattle.reg_rows.specs.Laws.{AnswersAreOne, EachIsAnswered, RowsAreWithin}
+use Rattle.reg_permit.specs.Laws.{PermittedOrNot}
+use Rattle.doc_build.specs.Choices.{free_names}
 use Rattle.lift_check.specs.Choices.{most_options}
 use Rattle.vkb_tool.specs.declared.status.Status.TheVariants.{Refused, Usage}
 use Rattle.vkb_tool.specs.declared.words.Request.{Request}
 use Rattle.vkb_tool.specs.declared.words.Request.TheVariants.{Check, Tag}
-use Rattle.vkb_tool.specs.Fault.{Fault, BadTag, InDocument, NoNumber, NotBuilt, TooManyNames}
-use Rattle.vkb_tool.specs.Outcome.{AreBuilt, Effect, IsFaultIn, IsFirstUnbuilt, Outcome, checked, is_unbuilt, misplaced, most_text, refused, status_of, writes_alone}
+use Rattle.vkb_tool.specs.Fault.{Fault, InDocument, InRegistry, NotBuilt, TooManyNames}
+use Rattle.vkb_tool.specs.Outcome.{AreBuilt, Effect, IsChecked, IsFaultIn, IsFirstUnbuilt, IsOffered, IsRegistryOf, Outcome, checked, is_unbuilt, misplaced, most_text, refused, status_of, writes_alone}
 use Rattle.vkb_tool.specs.Report.{fault_line, report_of, usage_line}
 use Rattle.vkb_tool.specs.Tags.{read_fault}
 use Rattle.vkb_tool.specs.Words.{Spells}
-use Rattle.vkb_tool.proofs.AgreementLemmas.{OneWalk, never_unbuilt}
+use Rattle.vkb_tool.specs.Registry.{IsRegistry}
+use Rattle.vkb_tool.proofs.AgreementLemmas.{OneWalk}
+use Rattle.vkb_tool.proofs.CheckLemmas.{nothing_wrong}
 use Rattle.vkb_tool.proofs.EveryRequest.{every_request}
 use Rattle.vkb_tool.proofs.EveryVerdict.{every_verdict}
 use Rattle.vkb_tool.proofs.TagsLemmas.{HavePages, tags_come_to}
 use Rattle.vkb_tool.proofs.OutcomeLemmas.{HaveSources, IsWalked, fault_there, faultless}
+use Rattle.vkb_tool.proofs.RegistryLemmas.{every_registry}
 
 -- the first line that isn't built, behind one that is
-unbuilt_behind : (first : FlatLine) (lines : List FlatLine) (line : FlatLine) → is_unbuilt first.kind ≡ false → IsFirstUnbuilt lines line → IsFirstUnbuilt (first ∷ lines) line
-unbuilt_behind first lines line built is = record { place = suc is.place; here = is.here; unbuilt = is.unbuilt; first = built_before }
+unbuilt_behind : (declared : List (List ℕ)) (first : FlatLine) (lines : List FlatLine) (line : FlatLine) → is_unbuilt declared first.kind ≡ false → IsFirstUnbuilt declared lines line → IsFirstUnbuilt declared (first ∷ lines) line
+unbuilt_behind declared first lines line built is = record { place = suc is.place; here = is.here; unbuilt = is.unbuilt; first = built_before }
   where
-    built_before : (before : ℕ) (other : FlatLine) → before < suc is.place → slice_get (first ∷ lines) before ≡ Some other → is_unbuilt other.kind ≡ false
-    built_before zero other earlier here = subst (λ (l : FlatLine). is_unbuilt l.kind ≡ false) (same_Some first other here) built
+    built_before : (before : ℕ) (other : FlatLine) → before < suc is.place → slice_get (first ∷ lines) before ≡ Some other → is_unbuilt declared other.kind ≡ false
+    built_before zero other earlier here = subst (λ (l : FlatLine). is_unbuilt declared l.kind ≡ false) (same_Some first other here) built
     built_before (suc before) other earlier here = is.first before other (omega arith) here
 
 -- one line is the first that isn't built, or all are built
-unbuilt_or_built : (lines : List FlatLine) → ((line : FlatLine) × IsFirstUnbuilt lines line) ⊎ AreBuilt lines
-unbuilt_or_built [] = inr (All-nil (λ (line : FlatLine). is_unbuilt line.kind ≡ false))
-unbuilt_or_built (first ∷ lines) =
-    elim (cases_Bool (is_unbuilt first.kind)) [
+unbuilt_or_built : (declared : List (List ℕ)) (lines : List FlatLine) → ((line : FlatLine) × IsFirstUnbuilt declared lines line) ⊎ AreBuilt declared lines
+unbuilt_or_built declared [] = inr (All-nil (λ (line : FlatLine). is_unbuilt declared line.kind ≡ false))
+unbuilt_or_built declared (first ∷ lines) =
+    elim (cases_Bool (is_unbuilt declared first.kind)) [
       | inl unbuilt ↦ inl (first, record { place = 0; here = refl; unbuilt = unbuilt; first = λ before other earlier here. absurd (omega arith) })
-      | inr built ↦ elim (unbuilt_or_built lines) [
-        | inl found ↦ inl (found.0, unbuilt_behind first lines found.0 built found.1)
-        | inr rest ↦ inr (All-cons (λ (line : FlatLine). is_unbuilt line.kind ≡ false) first lines built rest)
+      | inr built ↦ elim (unbuilt_or_built declared lines) [
+        | inl found ↦ inl (found.0, unbuilt_behind declared first lines found.0 built found.1)
+        | inr rest ↦ inr (All-cons (λ (line : FlatLine). is_unbuilt declared line.kind ≡ false) first lines built rest)
       ]
     ]
 
--- lines that are built, with few options, have no fault
-no_fault : (always : List (List ℕ)) (lines : List FlatLine) → AreBuilt lines → length (free_names always lines) ≤ most_options → (fault : Fault) → ¬ IsFaultIn always lines fault
-no_fault always lines built few (InDocument fault) is = is
-no_fault always lines built few (BadTag file number) is = is
-no_fault always lines built few (NoNumber needed left) is = is
-no_fault always lines built few (NotBuilt file number) (line, first, file_is, number_is) = never_unbuilt lines line built first
-no_fault always lines built few (TooManyNames count) (all, many) = let counted = many.counted in let more = many.many in omega arith
-
--- lines have a first fault or none
-fault_or_none : (always : List (List ℕ)) (lines : List FlatLine) → ((fault : Fault) × IsFaultIn always lines fault) ⊎ ((fault : Fault) → ¬ IsFaultIn always lines fault)
-fault_or_none always lines =
-    elim (unbuilt_or_built lines) [
+-- lines have a first fault or none, over a registry
+fault_or_none : (r : Rows) (lines : List FlatLine) → ((fault : Fault) × IsFaultIn r lines fault) ⊎ ((fault : Fault) → ¬ IsFaultIn r lines fault)
+fault_or_none r lines =
+    elim (unbuilt_or_built r.names lines) [
       | inl (line, first) ↦ inl (NotBuilt line.file line.number, (line, first, refl, refl))
-      | inr built ↦ elim (cases_lt most_options (length (free_names always lines))) [
-        | inl many ↦ inl (TooManyNames (length (free_names always lines)), (built, record { counted = refl; many = many }))
-        | inr few ↦ inr (no_fault always lines built few)
+      | inr built ↦ elim (cases_lt most_options (length r.options)) [
+        | inl many ↦ inl (TooManyNames (length r.options), (built, record { counted = refl; many = many }))
+        | inr few ↦ inr (nothing_wrong r lines built few)
       ]
     ]
 
-module _ (have : HaveSources) (one_walk : OneWalk) (pages : HavePages) (words : List (List ℕ)) (files : Files) where
-  -- a document whose walk has no fault comes to something
-  walked_comes : (registry : Option (List ℕ)) (root api : List ℕ) (always : List (List ℕ)) (lines : List FlatLine) → Spells words (Check registry root api always)
-      → IsDocument files most_text root lines → IsWalked files root lines → (effect : Effect) × Outcome words files effect
-  walked_comes registry root api always lines spelled is walked =
-      elim (fault_or_none always lines) [
-        | inl (fault, stands) ↦ (writes_alone Refused (fault_line fault), refused (Check registry root api always) fault spelled (fault_there files root always lines fault is stands))
+-- the registry of each list of lines, of which what is named is there
+abbrev HasRegistries : Files → Option (List ℕ) → List ℕ → List (List ℕ) → Type 0
+HasRegistries files registry api always = (lines : List FlatLine) → (r : Rows) × IsRegistryOf files registry api always lines r × AreWithin r.rows
+
+module _ (have : HaveSources) (one_walk : OneWalk) (pages : HavePages) (one_answer : OneAnswer) (one_rows : AnswersAreOne) (each_answered : EachIsAnswered) (rows_within : RowsAreWithin) (permitted_or_not : PermittedOrNot)
+    (words : List (List ℕ)) (files : Files) where
+  -- what is checked comes to something
+  checks_come : (registry : Option (List ℕ)) (root api : List ℕ) (always : List (List ℕ)) (r : Rows) (lines : List FlatLine) → Spells words (Check registry root api always) → IsOffered files registry api
+      → IsChecked files registry root api always r lines → AreWithin r.rows → IsWalked files root lines → (effect : Effect) × Outcome words files effect
+  checks_come registry root api always r lines spelled offered is within walked =
+      elim (fault_or_none r lines) [
+        | inl (fault, stands) ↦ (
+          writes_alone Refused (fault_line fault),
+          refused (Check registry root api always) fault spelled (fault_there files registry root api always r lines fault is stands),
+        )
         | inr none ↦
-            let judged = every_verdict always lines in (
-              writes_alone (status_of judged.0) (report_of lines (bare_setting always lines).options judged.0),
-              checked registry root api always lines judged.0 spelled (faultless files root always lines walked none) is judged.1,
+            let judged = every_verdict permitted_or_not always r lines within in (
+              writes_alone (status_of judged.0) (report_of lines r.options judged.0),
+              checked registry root api always r lines judged.0 spelled (faultless one_answer one_rows files registry root api always r lines walked is.over offered none) is judged.1,
             )
       ]
 
   -- a walk comes to something
   walk_comes : (registry : Option (List ℕ)) (root api : List ℕ) (always : List (List ℕ)) (sources : Sources) (first : Option DocumentFault) → Spells words (Check registry root api always)
-      → AreSources files sources → first_fault sources most_text [] (walk sources root) ≡ first → (effect : Effect) × Outcome words files effect
-  walk_comes registry root api always sources (Some fault) spelled are first =
+      → IsOffered files registry api → HasRegistries files registry api always → AreSources files sources → first_fault sources most_text [] (walk sources root) ≡ first → (effect : Effect) × Outcome words files effect
+  walk_comes registry root api always sources (Some fault) spelled offered registries are first =
       let is : IsFaultOf files most_text root fault = record { sources = sources; are = are; first = first } in
-      (writes_alone Refused (fault_line (InDocument fault)), refused (Check registry root api always) (InDocument fault) spelled is)
-  walk_comes registry root api always sources None spelled are first =
+      (writes_alone Refused (fault_line (InDocument fault)), refused (Check registry root api always) (InDocument fault) spelled (offered, is))
+  walk_comes registry root api always sources None spelled offered registries are first =
       let lines = taken (walk sources root) in
       let is : IsDocument files most_text root lines = record { sources = sources; are = are; faultless = first; lines_are = refl } in
       let walked : IsWalked files root lines = λ others also.
       let same = one_walk files sources others are also in
       (subst (λ (s : Sources). first_fault s most_text [] (walk s root) ≡ None) same first, ap (λ (s : Sources). taken (walk s root)) same) in
-      walked_comes registry root api always lines spelled is walked
+      let over = registries lines in
+      checks_come registry root api always over.0 lines spelled offered (record { document = is; over = over.1 }) over.2 walked
+
+  check_comes : (registry : Option (List ℕ)) (root api : List ℕ) (always : List (List ℕ)) → Spells words (Check registry root api always) → IsOffered files registry api → HasRegistries files registry api always
+      → (effect : Effect) × Outcome words files effect
+  check_comes registry root api always spelled offered registries =
+      let found = have files in
+      walk_comes registry root api always found.0 (first_fault found.0 most_text [] (walk found.0 root)) spelled offered registries found.1 refl
+
+  -- what the rows of a registry name is there
+  registry_within : (found : Option (List ℕ)) (api : List ℕ) (r : Rows) → IsRegistry found api r → AreWithin r.rows
+  registry_within found api r is = rows_within (forms_of api is.root) r is.answered
 
   request_comes : (request : Request) → Spells words request → (effect : Effect) × Outcome words files effect
-  request_comes (Check registry root api always) spelled =
-      let found = have files in
-      walk_comes registry root api always found.0 (first_fault found.0 most_text [] (walk found.0 root)) spelled found.1 refl
+  request_comes (Check None root api always) spelled =
+      check_comes None root api always spelled tt (λ lines. (bare_rows (free_names always lines), refl, All-nil (λ (row : Row). All (λ (id : NameId). id.0 < 0) row.named)))
+  request_comes (Check (Some name) root api always) spelled =
+      elim (every_registry one_answer each_answered (files name) api) [
+        | inl (r, is) ↦ check_comes (Some name) root api always spelled (r, is) (λ lines. (r, is, registry_within (files name) api r is))
+        | inr (fault, is) ↦ (writes_alone Refused (fault_line (InRegistry name api fault)), refused (Check (Some name) root api always) (InRegistry name api fault) spelled (refl, refl, is))
+      ]
   request_comes (Tag first names) spelled = tags_come_to pages words files first names (read_fault files most_text names) spelled refl
 
   -- the words and the files come to something

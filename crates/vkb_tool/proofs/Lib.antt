@@ -2,6 +2,7 @@ pub mod WordsLemmas
 pub mod TagWordsLemmas
 pub mod PutLemmas
 pub mod ReportLemmas
+pub mod RegistryLemmas
 pub mod OutcomeLemmas
 pub mod CheckLemmas
 pub mod ReadingLemmas

@@ -1,9 +1,12 @@
 -- The named faults, each with its place.
 use Rattle.std.specs.Prelude.{ℕ, List}
 use Rattle.doc_tree.specs.Fault.{Fault as DocumentFault}
+use Rattle.vkb_tool.specs.declared.registry.RegistryFault.{RegistryFault}
 
 -- Lines count from 1.
 pub data Fault : Type 0 where
+  -- the file of a registry, by its name, is no registry for an API
+  InRegistry : (file api : List ℕ) (fault : RegistryFault) → Fault
   -- a fault of the walk over a document, or of a file that is read to be tagged
   InDocument : (fault : DocumentFault) → Fault
   -- a line of the file has a form that isn't built yet

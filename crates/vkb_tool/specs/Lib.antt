@@ -1,5 +1,6 @@
 pub mod Words
 pub mod Reading
+pub mod Registry
 pub mod Fault
 pub mod Report
 pub mod Tags

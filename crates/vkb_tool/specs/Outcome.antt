@@ -1,12 +1,13 @@
 -- What a run of the program comes to, of the words and the files.
-use Rattle.std.specs.Prelude.{◌≡◌, ℕ, ◌<◌, Bool, true, false, Option, Some, None, slice_get, List, [], length, All}
+use Rattle.std.specs.Prelude.{◌≡◌, ℕ, ◌<◌, Bool, true, false, Option, Some, None, slice_get, List, [], length, take, All, ⊤}
 use Rattle.vkb_outside.specs.Shelf.{Files}
 use Rattle.doc_cond.specs.declared.LineKind.{LineKind}
-use Rattle.doc_cond.specs.declared.LineKind.TheVariants.{Refpage}
-use Rattle.doc_tree.specs.Flat.{FlatLine}
+use Rattle.doc_cond.specs.declared.LineKind.TheVariants.{Api, Refpage, Validity}
+use Rattle.doc_tree.specs.Flat.{FlatLine, is_among}
 use Rattle.doc_tree.specs.Walk.{IsDocument, IsFaultOf}
+use Rattle.reg_registry.specs.Rows.{Rows, bare_rows}
 use Rattle.doc_build.specs.declared.Place.{Place}
-use Rattle.doc_build.specs.Choices.{Choice, bare_setting, free_names}
+use Rattle.doc_build.specs.Choices.{Choice, free_names, registry_setting}
 use Rattle.lift_check.specs.declared.Verdict.{Verdict}
 use Rattle.lift_check.specs.declared.Verdict.TheVariants.{Yes, No}
 use Rattle.lift_check.specs.Choices.{most_options}
@@ -18,7 +19,10 @@ use Rattle.vkb_tool.specs.declared.words.Request.{Request}
 use Rattle.vkb_tool.specs.declared.words.Request.TheVariants.{Check, Tag}
 use Rattle.vkb_tool.specs.declared.status.Status.{Status}
 use Rattle.vkb_tool.specs.declared.status.Status.TheVariants.{Done, Broken, Usage, Refused}
-use Rattle.vkb_tool.specs.Fault.{Fault, BadTag, InDocument, NoNumber, NotBuilt, TooManyNames}
+use Rattle.vkb_tool.specs.declared.registry.RegistryFault.{RegistryFault}
+use Rattle.vkb_tool.specs.declared.registry.RegistryFault.TheVariants.{NamingCycle}
+use Rattle.vkb_tool.specs.Fault.{Fault, BadTag, InDocument, InRegistry, NoNumber, NotBuilt, TooManyNames}
+use Rattle.vkb_tool.specs.Registry.{IsRegistry, IsRegistryFault}
 use Rattle.vkb_tool.specs.Words.{Spells, IsMisplaced}
 use Rattle.vkb_tool.specs.Tags.{changed, read_fault, texts_of}
 use Rattle.vkb_tool.specs.Report.{usage_line, fault_line, report_of, tagged_line}
@@ -27,43 +31,64 @@ use Rattle.vkb_tool.specs.Report.{usage_line, fault_line, report_of, tagged_line
 abbrev pub most_text : ℕ
 most_text = 268435456
 
--- the kinds of lines that aren't built yet: those that set `refpage`
-abbrev pub is_unbuilt : LineKind → Bool
-is_unbuilt (Refpage name) = true
-is_unbuilt _ = false
+-- the kinds of lines that aren't built yet: those that set `refpage`, and those that include a page of a declared name
+abbrev pub is_unbuilt : List (List ℕ) → LineKind → Bool
+is_unbuilt declared (Refpage name) = true
+is_unbuilt declared (Api name) = is_among declared name
+is_unbuilt declared (Validity name) = is_among declared name
+is_unbuilt declared _ = false
 
--- the line is the first of a document whose form isn't built yet
-pub record IsFirstUnbuilt (lines : List FlatLine) (line : FlatLine) : Type 0 where
+-- the line is the first of a document whose form isn't built yet, where these names are declared
+pub record IsFirstUnbuilt (declared : List (List ℕ)) (lines : List FlatLine) (line : FlatLine) : Type 0 where
   pub place : ℕ
   pub here : slice_get lines place ≡ Some line
-  pub unbuilt : is_unbuilt line.kind ≡ true
-  pub first : (before : ℕ) (other : FlatLine) → before < place → slice_get lines before ≡ Some other → is_unbuilt other.kind ≡ false
+  pub unbuilt : is_unbuilt declared line.kind ≡ true
+  pub first : (before : ℕ) (other : FlatLine) → before < place → slice_get lines before ≡ Some other → is_unbuilt declared other.kind ≡ false
 
 -- lines whose forms are all built
-abbrev pub AreBuilt : List FlatLine → Type 0
-AreBuilt lines = All (λ line. is_unbuilt line.kind ≡ false) lines
+abbrev pub AreBuilt : List (List ℕ) → List FlatLine → Type 0
+AreBuilt declared lines = All (λ line. is_unbuilt declared line.kind ≡ false) lines
 
 -- the options are too many: so many
 pub record AreTooMany (options : List (List ℕ)) (count : ℕ) : Type 0 where
   pub counted : count ≡ length options
   pub many : most_options < count
 
--- the first fault of a document whose walk has none, where some names are always set: a line of a form that isn't built goes before
--- options that are too many
-abbrev pub IsFaultIn : List (List ℕ) → List FlatLine → Fault → Type 0
-IsFaultIn always lines (InDocument fault) = ⊥
-IsFaultIn always lines (NotBuilt file number) = (line : FlatLine) × IsFirstUnbuilt lines line × (file ≡ line.file) × (number ≡ line.number)
-IsFaultIn always lines (TooManyNames count) = AreBuilt lines × AreTooMany (free_names always lines) count
-IsFaultIn always lines (BadTag file number) = ⊥
-IsFaultIn always lines (NoNumber needed left) = ⊥
+-- the first fault of a document whose walk has none, over a registry that has none: a line of a form that isn't built goes before options that
+-- are too many
+abbrev pub IsFaultIn : Rows → List FlatLine → Fault → Type 0
+IsFaultIn r lines (InRegistry file api fault) = ⊥
+IsFaultIn r lines (InDocument fault) = ⊥
+IsFaultIn r lines (NotBuilt file number) = (line : FlatLine) × IsFirstUnbuilt r.names lines line × (file ≡ line.file) × (number ≡ line.number)
+IsFaultIn r lines (TooManyNames count) = AreBuilt r.names lines × AreTooMany r.options count
+IsFaultIn r lines (BadTag file number) = ⊥
+IsFaultIn r lines (NoNumber needed left) = ⊥
 
--- a fault of the document of a root, where some names are always set: those of the walk go first
-abbrev pub IsCheckFault : Files → List ℕ → List (List ℕ) → Fault → Type 0
-IsCheckFault files root always (InDocument fault) = IsFaultOf files most_text root fault
-IsCheckFault files root always (NotBuilt file number) = (lines : List FlatLine) × IsDocument files most_text root lines × IsFaultIn always lines (NotBuilt file number)
-IsCheckFault files root always (TooManyNames count) = (lines : List FlatLine) × IsDocument files most_text root lines × IsFaultIn always lines (TooManyNames count)
-IsCheckFault files root always (BadTag file number) = ⊥
-IsCheckFault files root always (NoNumber needed left) = ⊥
+-- the registry of a document: that of a file for an API, or without a file a bare one of the names of the document's conditions
+abbrev pub IsRegistryOf : Files → Option (List ℕ) → List ℕ → List (List ℕ) → List FlatLine → Rows → Type 0
+IsRegistryOf files None api always lines r = r ≡ bare_rows (free_names always lines)
+IsRegistryOf files (Some name) api always lines r = IsRegistry (files name) api r
+
+-- the file of a registry, if one is named, has no fault
+abbrev pub IsOffered : Files → Option (List ℕ) → List ℕ → Type 0
+IsOffered files None api = ⊤
+IsOffered files (Some name) api = (r : Rows) × IsRegistry (files name) api r
+
+-- what is checked: the flat document of a root, where some names are always set, and its registry
+pub record IsChecked (files : Files) (registry : Option (List ℕ)) (root api : List ℕ) (always : List (List ℕ)) (r : Rows) (lines : List FlatLine) : Type 0 where
+  pub document : IsDocument files most_text root lines
+  pub over : IsRegistryOf files registry api always lines r
+
+-- the first fault of what is to be checked: those of the registry go before those of the document's walk, and these before all others
+abbrev pub IsCheckFault : Files → Option (List ℕ) → List ℕ → List ℕ → List (List ℕ) → Fault → Type 0
+IsCheckFault files registry root api always (InRegistry file asked fault) = (registry ≡ Some file) × (asked ≡ api) × IsRegistryFault (files file) api fault
+IsCheckFault files registry root api always (InDocument fault) = IsOffered files registry api × IsFaultOf files most_text root fault
+IsCheckFault files registry root api always (NotBuilt file number) =
+    (r : Rows) × (lines : List FlatLine) × IsChecked files registry root api always r lines × IsFaultIn r lines (NotBuilt file number)
+IsCheckFault files registry root api always (TooManyNames count) =
+    (r : Rows) × (lines : List FlatLine) × IsChecked files registry root api always r lines × IsFaultIn r lines (TooManyNames count)
+IsCheckFault files registry root api always (BadTag file number) = ⊥
+IsCheckFault files registry root api always (NoNumber needed left) = ⊥
 
 -- the files of a request to tag are there, and not too long
 abbrev pub AreRead : Files → List (List ℕ) → Type 0
@@ -71,6 +96,7 @@ AreRead files names = read_fault files most_text names ≡ None
 
 -- a fault of a request to tag: the first of the files that are read in order, or else the first of their tags
 abbrev pub IsTagsFault : Files → ℕ → List (List ℕ) → Fault → Type 0
+IsTagsFault files first names (InRegistry file api fault) = ⊥
 IsTagsFault files first names (InDocument fault) = read_fault files most_text names ≡ Some fault
 IsTagsFault files first names (NotBuilt file number) = ⊥
 IsTagsFault files first names (TooManyNames count) = ⊥
@@ -79,7 +105,7 @@ IsTagsFault files first names (NoNumber needed left) = AreRead files names × Is
 
 -- the first named fault that stands in what a request asks of the files
 abbrev pub IsFirstFault : Request → Files → Fault → Type 0
-IsFirstFault (Check registry root api always) files fault = IsCheckFault files root always fault
+IsFirstFault (Check registry root api always) files fault = IsCheckFault files registry root api always fault
 IsFirstFault (Tag first names) files fault = IsTagsFault files first names fault
 
 -- no named fault stands in what a request asks of the files
@@ -109,28 +135,29 @@ writes_alone status output = record { status = status; output = output; puts = [
 abbrev pub puts_tags : Names → ℕ → List (List ℕ) → List (List ℕ) → Effect
 puts_tags pages first names texts = record { status = Done; output = tagged_line (needed_of texts); puts = changed names texts (tagged_of pages first texts) }
 
--- What the words and the files come to. Only the choice that a `no` names is left open, and with it the id and the count there.
+-- What the words and the files come to. Left open are only the choice that a `no` names, with the id and the count there, and which of several circles
+-- of names through the first name on any is told.
 pub data Outcome (words : List (List ℕ)) (files : Files) : Effect → Type 0 where
   -- the words are no request
   misplaced : (position : ℕ) → IsMisplaced words position → Outcome words files (writes_alone Usage (usage_line position))
   -- a fault stands in what is asked; the first one is told
   refused : (request : Request) (fault : Fault) → Spells words request → IsFirstFault request files fault → Outcome words files (writes_alone Refused (fault_line fault))
   -- the verdict on a document without a fault: yes, or the first link that some permitted choice breaks
-  checked : (registry : Option (List ℕ)) (root api : List ℕ) (always : List (List ℕ)) (lines : List FlatLine) (verdict : Verdict)
+  checked : (registry : Option (List ℕ)) (root api : List ℕ) (always : List (List ℕ)) (r : Rows) (lines : List FlatLine) (verdict : Verdict)
       → Spells words (Check registry root api always) → HasNoFault (Check registry root api always) files
-      → IsDocument files most_text root lines → IsVerdict (bare_setting always lines) lines verdict
-      → Outcome words files (writes_alone (status_of verdict) (report_of lines (bare_setting always lines).options verdict))
+      → IsChecked files registry root api always r lines → IsVerdict (registry_setting always r) lines verdict
+      → Outcome words files (writes_alone (status_of verdict) (report_of lines r.options verdict))
   -- new tags for the statements of files without a fault
   tagged : (first : ℕ) (names : List (List ℕ)) (pages : Names) → Spells words (Tag first names) → HasNoFault (Tag first names) files
       → TellsPages pages → Outcome words files (puts_tags pages first names (texts_of files names))
 
--- the report that this link of a document is the first that some permitted choice breaks, with some such choice
-pub record TellsPlace (always : List (List ℕ)) (lines : List FlatLine) (place : Place) (output : List ℕ) : Type 0 where
+-- the report that this link of a document is the first that some choice breaks that a registry permits, with some such choice
+pub record TellsPlace (always : List (List ℕ)) (r : Rows) (lines : List FlatLine) (place : Place) (output : List ℕ) : Type 0 where
   pub id : List ℕ
   pub choice : Choice
   pub count : ℕ
-  pub judged : IsVerdict (bare_setting always lines) lines (No place id choice count)
-  pub output_is : output ≡ report_of lines (bare_setting always lines).options (No place id choice count)
+  pub judged : IsVerdict (registry_setting always r) lines (No place id choice count)
+  pub output_is : output ≡ report_of lines r.options (No place id choice count)
 
 -- two reports on the document of a request name one place
 pub record NameOnePlace (words : List (List ℕ)) (files : Files) (output other : List ℕ) : Type 0 where
@@ -139,8 +166,36 @@ pub record NameOnePlace (words : List (List ℕ)) (files : Files) (output other 
   pub api : List ℕ
   pub always : List (List ℕ)
   pub spelled : Spells words (Check registry root api always)
+  pub r : Rows
   pub lines : List FlatLine
-  pub document : IsDocument files most_text root lines
+  pub checked : IsChecked files registry root api always r lines
   pub place : Place
-  pub one : TellsPlace always lines place output
-  pub also : TellsPlace always lines place other
+  pub one : TellsPlace always r lines place output
+  pub also : TellsPlace always r lines place other
+
+-- what is determined of a fault of a registry: of names that are a circle the first alone
+abbrev pub settled : RegistryFault → RegistryFault
+settled (NamingCycle names) = NamingCycle (take 1 names)
+settled fault = fault
+
+-- and of any fault
+abbrev pub determined : Fault → Fault
+determined (InRegistry file api fault) = InRegistry file api (settled fault)
+determined fault = fault
+
+-- the first fault in what the words ask of the files is told
+pub record TellsFirst (words : List (List ℕ)) (files : Files) (fault : Fault) (effect : Effect) : Type 0 where
+  pub request : Request
+  pub spelled : Spells words request
+  pub first : IsFirstFault request files fault
+  pub told : effect ≡ writes_alone Refused (fault_line fault)
+
+-- two runs tell of circles of names of one registry, through one first name
+pub record NameOneCircle (words : List (List ℕ)) (files : Files) (effect other : Effect) : Type 0 where
+  pub file : List ℕ
+  pub api : List ℕ
+  pub names : List (List ℕ)
+  pub others : List (List ℕ)
+  pub first : take 1 names ≡ take 1 others
+  pub one : TellsFirst words files (InRegistry file api (NamingCycle names)) effect
+  pub also : TellsFirst words files (InRegistry file api (NamingCycle others)) other

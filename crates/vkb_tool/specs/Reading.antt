@@ -1,13 +1,27 @@
 -- What is found among the words while they are read: for private contracts alone. No public contract names it.
-use Rattle.std.specs.Prelude.{◌≡◌, ◌≢◌, ℕ, ◌-◌, ◌≤◌, List, ◌++◌, length, take, map, slice_get, Some, All, ⊤}
+use Rattle.std.specs.Prelude.{◌≡◌, ◌≢◌, ℕ, ◌-◌, ◌≤◌, List, ◌++◌, length, take, map, slice_get, codes, Option, Some, None, All, Bool, IsTrue, ⊤, if◌then◌else◌}
+use Rattle.std.specs.Str.{bytes_eq}
+use Rattle.doc_cond.specs.Lines.{is_run}
 use Rattle.vkb_formula.specs.Names.{AreDifferent}
 use Rattle.vkb_tool.specs.declared.words.WordFault.{WordFault}
 use Rattle.vkb_tool.specs.declared.words.WordFault.TheVariants.{Usage, Memory}
-use Rattle.vkb_tool.specs.Words.{AreFileNames, IsAttribute, IsFileName, WritesFirst, attribute_word}
+use Rattle.vkb_tool.specs.Words.{AreFileNames, IsAttribute, IsFileName, WritesFirst, attribute_word, is_api_byte}
 
 -- a file's name stands at an index, from 0
 abbrev pub IsNamed : List (List ℕ) → ℕ → List ℕ → Type 0
 IsNamed words at name = (slice_get words at ≡ Some name) × IsFileName name
+
+-- the file of a registry by its word
+abbrev pub registry_by : List ℕ → Option (List ℕ)
+registry_by word = if bytes_eq word (codes "-") then None else Some word
+
+-- the word of an API goes with the word of a registry: a `-` with a `-`, and a name with any other
+abbrev pub goes_with : List ℕ → List ℕ → Bool
+goes_with registry api = if bytes_eq registry (codes "-") then bytes_eq api (codes "-") else is_run is_api_byte api
+
+-- such a word stands fourth
+abbrev pub IsApiAt : List (List ℕ) → List ℕ → List ℕ → Type 0
+IsApiAt words registry api = (slice_get words 3 ≡ Some api) × IsTrue (goes_with registry api)
 
 -- the words are the first four and then those that set these attributes
 pub record SetsAttributes (words names : List (List ℕ)) : Type 0 where

@@ -7,7 +7,11 @@ use Rattle.doc_build.specs.declared.Place.{Place}
 use Rattle.doc_build.specs.Choices.{chosen_of}
 use Rattle.lift_check.specs.declared.Verdict.{Verdict}
 use Rattle.lift_check.specs.declared.Verdict.TheVariants.{Yes, No}
-use Rattle.vkb_tool.specs.Fault.{Fault, BadTag, InDocument, NoNumber, NotBuilt, TooManyNames}
+use Rattle.reg_forms.specs.declared.forms.RowCode.{RowCode}
+use Rattle.reg_forms.specs.declared.forms.RowCode.TheVariants.{BadAttribute, ApiType, BadExpression, DuplicateName, UnknownName, ValueRange, ValueClash, AliasCircle, NameLimit as RowLimit}
+use Rattle.vkb_tool.specs.declared.registry.RegistryFault.{RegistryFault}
+use Rattle.vkb_tool.specs.declared.registry.RegistryFault.TheVariants as registry
+use Rattle.vkb_tool.specs.Fault.{Fault, BadTag, InDocument, InRegistry, NoNumber, NotBuilt, TooManyNames}
 
 -- what a line of a report ends in
 abbrev pub line_feed : List ℕ
@@ -70,8 +74,35 @@ document_fault_line (document.BadCondition file line) = line_fault_line (codes "
 document_fault_line (document.Unbalanced file line) = line_fault_line (codes "Unbalanced") file line
 document_fault_line (document.CondDepth file line) = line_fault_line (codes "CondDepth") file line
 
+-- the name of the code of a fault of rows
+abbrev pub code_name : RowCode → List ℕ
+code_name BadAttribute = codes "BadAttribute"
+code_name ApiType = codes "ApiType"
+code_name BadExpression = codes "BadExpression"
+code_name DuplicateName = codes "DuplicateName"
+code_name UnknownName = codes "UnknownName"
+code_name ValueRange = codes "ValueRange"
+code_name ValueClash = codes "ValueClash"
+code_name AliasCircle = codes "AliasCircle"
+code_name RowLimit = codes "NameLimit"
+
+-- the line of a fault of a file, by its code, with items behind the name of the file
+abbrev pub items_line : List ℕ → List ℕ → List (List ℕ) → List ℕ
+items_line code file items = codes "refused " ++ code ++ codes " " ++ file ++ flat_map (λ item. codes " " ++ item) items ++ line_feed
+
+-- the line of a fault of the file of a registry, for an API; a place is told in bytes from 0
+abbrev pub registry_fault_line : List ℕ → List ℕ → RegistryFault → List ℕ
+registry_fault_line file api registry.Missing = items_line (codes "Missing") file []
+registry_fault_line file api registry.TooLarge = items_line (codes "TooLarge") file []
+registry_fault_line file api (registry.BadMarkup at) = items_line (codes "BadMarkup") file (decimal at ∷ [])
+registry_fault_line file api (registry.TooDeep at) = items_line (codes "TooDeep") file (decimal at ∷ [])
+registry_fault_line file api (registry.BadRow code at word) = items_line (code_name code) file (decimal at ∷ word ∷ [])
+registry_fault_line file api registry.NoFeature = items_line (codes "NoFeature") file (api ∷ [])
+registry_fault_line file api (registry.NamingCycle names) = items_line (codes "NamingCycle") file names
+
 -- the line of a fault
 abbrev pub fault_line : Fault → List ℕ
+fault_line (InRegistry file api fault) = registry_fault_line file api fault
 fault_line (InDocument fault) = document_fault_line fault
 fault_line (NotBuilt file line) = line_fault_line (codes "NotBuilt") file line
 fault_line (TooManyNames count) = codes "refused TooManyNames " ++ decimal count ++ line_feed

@@ -1,7 +1,8 @@
 -- The words of a request, and where words that are none stop being the words of one.
-use Rattle.std.specs.Prelude.{◌≡◌, ◌≢◌, ℕ, ◌+◌, ◌-◌, ◌≤◌, List, [], ◌∷◌, ◌++◌, length, take, map, codes, Option, Some, None, Vec, ⊤, All, IsTrue}
+use Rattle.std.specs.Prelude.{◌≡◌, ◌≢◌, ℕ, ◌+◌, ◌-◌, ◌≤◌, List, [], ◌∷◌, ◌++◌, length, take, map, codes, Option, Some, None, Vec, ⊤, All, Bool, IsTrue, ◌||◌}
 use Rattle.std.specs.declared.alloc.Global.{Global}
 use Rattle.std.specs.Str.{IsUtf8}
+use Rattle.vkb_bytes.specs.Bytes.{is_digit, is_letter}
 use Rattle.vkb_bytes.specs.Numbers.{numeral_of}
 use Rattle.vkb_formula.specs.Names.{AreDifferent}
 use Rattle.doc_cond.specs.Lines.{is_name_byte, is_run}
@@ -28,10 +29,18 @@ abbrev pub registry_word : Option (List ℕ) → List ℕ
 registry_word None = codes "-"
 registry_word (Some name) = name
 
--- an API goes with a registry, and a `-` with none; no request names a registry yet
+-- a letter or a digit
+abbrev pub is_api_byte : ℕ → Bool
+is_api_byte byte = is_letter byte || is_digit byte
+
+-- the name of an API: one or more letters and digits
+abbrev pub IsApiName : List ℕ → Type 0
+IsApiName api = IsTrue (is_run is_api_byte api)
+
+-- an API goes with the file of a registry, which isn't named `-`; and a `-` goes with none
 abbrev pub IsApiOf : Option (List ℕ) → List ℕ → Type 0
 IsApiOf None api = api ≡ codes "-"
-IsApiOf (Some name) api = ⊥
+IsApiOf (Some name) api = IsFileName name × (name ≢ codes "-") × IsApiName api
 
 -- the first number of new tags: one to five digits, from 1 to 99999
 pub record WritesFirst (word : List ℕ) (first : ℕ) : Type 0 where

@@ -80,12 +80,19 @@ pub fn answer_words<S: Shelf>(
     match read_words(alloc, words) {
         Ok(
             Request::Check {
-                registry: _registry,
+                registry,
                 root,
-                api: _api,
+                api,
                 always,
             },
-        ) => check(alloc, shelf, root.as_str(), always.as_slice()),
+        ) => check(
+            alloc,
+            shelf,
+            &registry,
+            root.as_str(),
+            api.as_slice(),
+            always.as_slice(),
+        ),
         Ok(Request::Tag { first, files }) => tag(alloc, shelf, first, files.as_slice()),
         Err(WordFault::Usage { position }) => Ok(misplaced(alloc, position)?),
         Err(WordFault::Memory) => Err(Trouble::NoMemory),

@@ -1,15 +1,18 @@
 //! What the definitions say, in other words: none does anything, and its clause is what is proved. A law that is called is one
 //! that the proof cites.
-ghost use Rattle.std.specs.Prelude.{◌≡◌, ◌≢◌, ℕ, List};
+ghost use Rattle.std.specs.Prelude.{◌≡◌, ◌≢◌, ◌⊎◌, ℕ, List};
 ghost use Rattle.vkb_outside.specs.Shelf.{Files};
 ghost use Rattle.vkb_tool.specs.Fault.{Fault};
-ghost use Rattle.vkb_tool.specs.Outcome.{Effect, IsFirstFault, NameOnePlace, Outcome};
+ghost use Rattle.vkb_tool.specs.Outcome.{Effect, IsFirstFault, NameOneCircle, NameOnePlace, Outcome, determined};
 ghost use Rattle.vkb_tool.specs.Words.{Spells, IsMisplaced};
 ghost use Rattle.vkb_tool.specs.declared.status.Status.TheVariants.{Broken};
 
 use crate::Request;
 use doc_tree::{files_have_sources, one_walk};
 use lift_check::one_verdict;
+use reg_permit::choices_are_permitted_or_not;
+use reg_reader::one_answer;
+use reg_rows::{answers_are_one, each_registry_is_answered, rows_are_within};
 use vu_tags::pages_are_one;
 
 /// Words ask for one request at most, and where they ask for none, one position at most is that of the first that has no place.
@@ -19,24 +22,30 @@ pub fn one_reading()
     ensures apart { (words : List (List ℕ)) (request : Request) (position : ℕ) → Spells words request → ¬ (IsMisplaced words position) }
 {}
 
-/// One named fault at most is the first in what a request asks of the files. Where a fault will leave open which of several things it
-/// names, as of several circles, this will say so of all else.
+/// One named fault at most is the first in what a request asks of the files, but for the further names of a circle of names: of several circles
+/// through the first name on any it is open which is told.
 pub fn one_fault()
-    ensures { (request : Request) (files : Files) (fault other : Fault) → IsFirstFault request files fault → IsFirstFault request files other → fault ≡ other }
+    ensures { (request : Request) (files : Files) (fault other : Fault) → IsFirstFault request files fault → IsFirstFault request files other
+        → determined fault ≡ determined other }
 {
     one_walk();
+    one_answer();
+    answers_are_one();
 }
 
 /// The words and the files come to one outcome, but for the choice that a `no` names, and the id and the count there: two that
-/// say `no` name one place of a document. What else is left open to a run, as the steps of a proof that it writes, is to be excepted here
-/// as the choice of a `no` is.
+/// say `no` name one place of a document; and but for which of several circles of names is told: two such tell of one first name. What else is
+/// left open to a run, as the steps of a proof that it writes, is to be excepted here as these are.
 pub fn one_outcome()
     ensures status { (words : List (List ℕ)) (files : Files) (effect other : Effect) → Outcome words files effect → Outcome words files other → effect.status ≡ other.status }
-    ensures same { (words : List (List ℕ)) (files : Files) (effect other : Effect) → Outcome words files effect → Outcome words files other → effect.status ≢ Broken → effect ≡ other }
+    ensures same { (words : List (List ℕ)) (files : Files) (effect other : Effect) → Outcome words files effect → Outcome words files other → effect.status ≢ Broken
+        → (effect ≡ other) ⊎ NameOneCircle words files effect other }
     ensures place { (words : List (List ℕ)) (files : Files) (effect other : Effect) → Outcome words files effect → Outcome words files other → effect.status ≡ Broken
         → NameOnePlace words files effect.output other.output }
 {
     one_walk();
+    one_answer();
+    answers_are_one();
     one_verdict();
     pages_are_one();
 }
@@ -48,4 +57,9 @@ pub fn each_has_an_outcome()
     files_have_sources();
     one_walk();
     pages_are_one();
+    one_answer();
+    answers_are_one();
+    each_registry_is_answered();
+    rows_are_within();
+    choices_are_permitted_or_not();
 }

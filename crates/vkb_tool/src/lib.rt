@@ -6,6 +6,7 @@ mod answer;
 mod check;
 mod laws;
 mod program;
+mod registry;
 mod report;
 mod status;
 mod tags;

@@ -9,12 +9,16 @@ ghost use Rattle.vkb_tool.specs.Check.{AreFilesThere, IsTroubleOf, NamesWithin};
 ghost use Rattle.vkb_tool.specs.Fault.{BadTag, NoNumber, NotBuilt, TooManyNames};
 ghost use Rattle.vkb_tool.specs.Report.{broken_lines, document_fault_line, fault_line, file_fault_line, line_fault_line, place_text, report_of, spot_in, tagged_line, usage_line, with_line};
 
+mod registry;
+
 use crate::Memory;
 use crate::answer::Trouble;
 use doc_build::Place;
 use doc_tree::{DocFault, Document};
-use lift_check::{OptionId, Options, Verdict};
+use lift_check::Verdict;
+pub use registry::registry_fault_text;
 use std::alloc::Global;
+use vkb_formula::{NameId, NameTable};
 
 /// The line for words whose position, from 1, has no place.
 pub fn usage_text(alloc: Global, position: u32) -> Result<Vec<u8>, Memory>
@@ -124,17 +128,17 @@ fn refused(alloc: Global, code: &[u8]) -> Result<Vec<u8>, Memory>
     Ok(text)
 }
 
-/// The report of a verdict on a document.
+/// The report of a verdict on a document, by the names of the options.
 pub fn report(
     alloc: Global,
     document: &Document,
-    options: &Options,
+    options: &NameTable,
     verdict: &Verdict,
 ) -> Result<Vec<u8>, Memory>
     requires files { AreFilesThere document.now }
-    requires few { length options.now.free < 2 ^ 32 }
-    requires within { NamesWithin (length document.now.lines) (length options.now.free) verdict.now }
-    ensures { IfOk result (λ text. (whole : List ℕ) → text.items ≡ report_of (flat_of whole document.now) options.now.free verdict.now) }
+    requires few { length options.now < 2 ^ 32 }
+    requires within { NamesWithin (length document.now.lines) (length options.now) verdict.now }
+    ensures { IfOk result (λ text. (whole : List ℕ) → text.items ≡ report_of (flat_of whole document.now) options.now verdict.now) }
 {
     match verdict {
         Verdict::Yes { links } => Ok(format!(in alloc; "yes {links}\n")?.into_bytes()),
@@ -203,15 +207,15 @@ fn spot_text(alloc: Global, number: u32, statement: u32, at: u32) -> Result<Stri
 }
 
 /// Adds a line for each chosen option.
-fn add_choice(text: &mut Vec<u8>, options: &Options, choice: &[bool]) -> Result<(), Memory>
-    requires whole { length choice.now ≡ length options.now.free }
-    requires few { length options.now.free < 2 ^ 32 }
-    ensures { OnOk result (text.new.items ≡ text.old.items ++ flat_map with_line (chosen_of options.now.free choice.now)) }
+fn add_choice(text: &mut Vec<u8>, options: &NameTable, choice: &[bool]) -> Result<(), Memory>
+    requires whole { length choice.now ≡ length options.now }
+    requires few { length options.now < 2 ^ 32 }
+    ensures { OnOk result (text.new.items ≡ text.old.items ++ flat_map with_line (chosen_of options.now choice.now)) }
 {
     for (option, chosen) in choice.iter().enumerate() {
         if *chosen {
             text.extend_from_slice(b"with ")?;
-            text.extend_from_slice(options.name(OptionId(option as u32)))?;
+            text.extend_from_slice(options.name(NameId(option as u32)))?;
             text.push(b'\n')?;
         }
     }

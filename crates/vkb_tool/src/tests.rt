@@ -1,5 +1,7 @@
 mod chapters;
+mod registries;
 mod tags;
+mod words;
 
 use super::*;
 use std::alloc::{AllocError, Global};
@@ -220,66 +222,6 @@ fn twelve_options_are_tried(rt: HostRuntime) -> Result<(), Fail> {
     let text = "ifdef::A,B,C,D,E,F,G,H,I,J,K,L,M[]\nendif::[]\n:refpage: VkA";
     refuses(&rt, alloc, text, "refused NotBuilt a.adoc:3\n")?;
     Ok(())
-}
-
-#[test]
-fn misplaced_words_are_told(rt: HostRuntime) -> Result<(), Fail> {
-    let alloc = rt.alloc();
-    for (words, written) in [
-        ("", "usage 1\n"),
-        ("check - a.adoc", "usage 4\n"),
-        ("check - a.adoc vulkan", "usage 4\n"),
-        ("check - a.adoc - X", "usage 5\n"),
-        ("check - a.adoc - +", "usage 5\n"),
-        ("check - a.adoc - +X +a.b +Y", "usage 6\n"),
-        ("check a.adoc", "usage 2\n"),
-        ("header - - X", "usage 1\n"),
-    ] {
-        says(&rt, alloc, "", words, written, Status::Usage)?;
-    }
-    Ok(())
-}
-
-#[test]
-fn a_name_is_text_and_some(rt: HostRuntime) -> Result<(), Fail> {
-    let alloc = rt.alloc();
-    for (name, position) in [(b"a\xffb".as_slice(), 3), (b"".as_slice(), 3)] {
-        let mut words = words_of(alloc, "check -")?;
-        words.push(name.to_vec(alloc)?)?;
-        words.push(b"-".to_vec(alloc)?)?;
-        assert!(rt; words.len() < 100);
-        let fault = read_words(alloc, &words).err();
-        assert_eq!(rt; fault, Some(WordFault::Usage { position }));
-    }
-    let words = words_of(alloc, "check - é.adoc - +A-1 +_")?;
-    assert!(rt; words.len() < 100);
-    checks_two(&rt, read_words(alloc, &words)?);
-    Ok(())
-}
-
-/// Asserts that a request is a check of `é.adoc` where `A-1` and `_` are always set.
-fn checks_two(rt: &impl Abort, request: Request) {
-    match request {
-        Request::Check {
-            registry,
-            root,
-            api,
-            always,
-        } => {
-            assert!(rt; registry.is_none());
-            assert_eq!(rt; root.as_str(), "é.adoc");
-            assert_eq!(rt; api.as_slice(), b"-".as_slice());
-            assert_eq!(rt; always.as_slice().len(), 2);
-            assert_eq!(rt; always.as_slice()[0].as_slice(), b"A-1".as_slice());
-            assert_eq!(rt; always.as_slice()[1].as_slice(), b"_".as_slice());
-        }
-        Request::Tag { first, files } => {
-            panic!(rt;
-                "a request to tag {} files from {first} on",
-                files.as_slice().len()
-            );
-        }
-    }
 }
 
 #[test]

@@ -76,8 +76,8 @@ impl From<Memory> for WordFault {
 
 /// Reads the words of a request, by the first of them:
 ///
-/// - `check - ROOT -`, where ROOT is a file's name, and then any number of `+ATTR`, where ATTR is one or more letters, digits, `_`
-///   and `-`;
+/// - `check REG ROOT API`, where REG and ROOT are files' names and API is one or more letters and digits, or REG and API are both `-`; and then any
+///   number of `+ATTR`, where ATTR is one or more letters, digits, `_` and `-`;
 /// - `tag FIRST` and one or more FILE, where FIRST is one to five digits, from 1 to 99999, and each FILE is another file's name.
 pub fn read_words(alloc: Global, words: &[Vec<u8>]) -> Result<Request, WordFault>
     requires { length words.now < 2 ^ 32 }

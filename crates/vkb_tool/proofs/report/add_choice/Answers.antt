@@ -28,14 +28,14 @@ passed text start options choice k same below unchosen so_far =
 
 pub loop-option-preserved : goal.loop-option-preserved
 loop-option-preserved c =
-    let options = c.args.options.now.free in
+    let options = c.args.options.now in
     let choice = c.args.choice.now in
     let start = c.args.text.now.items in
     let k = c.loop-option.option in
     elim c.if-chosen.branch [
       | then-chosen+in_ok-extend_from_slice+in_ok-extend_from_slice-2+in_ok-push w ↦
           let name = w.name.result.now in
-          let named : get_or options k [] ≡ name = get_or_from_slice_get options k name [] w.name.ensures in
+          let named : get_or options k [] ≡ name = get_or_from_slice_get options k name [] w.name.ensures.held in
           let first = w.in_ok-extend_from_slice.ensures.items in
           let second = w.in_ok-extend_from_slice-2.ensures.items in
           let third = w.in_ok-push.ensures.items in

@@ -7,7 +7,7 @@ use Rattle.vkb_tool.proofs.report.report.Goals as goal
 
 pub returns-in_ok-add_choice-in-No : goal.returns-in_ok-add_choice-in-No
 returns-in_ok-add_choice-in-No c = λ whole.
-    let free = c.args.options.now.free in
+    let free = c.args.options.now in
     let lines = flat_of whole c.args.document.now in
     let told = λ (id : List ℕ) (choice : List Bool). broken_lines lines c.in-No.place id c.in-No.count ++ flat_map with_line (chosen_of free choice) in
     rw c.in-No.is
