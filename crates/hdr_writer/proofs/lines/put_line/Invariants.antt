@@ -1,0 +1,6 @@
+use Rattle.std.proofs.Common.{◌≡◌, ◌++◌, map, take}
+use Rattle.std.specs.List.{concat}
+use Rattle.hdr_writer.proofs.lines.put_line.Given as goal
+
+abbrev pub invariant-loop-part : goal.invariant-loop-part
+invariant-loop-part l = l.text.items ≡ l.initial.text.items ++ concat (map (λ part. part.now) (take l.part-index l.parts))

@@ -1,0 +1,10 @@
+pub mod Aliases
+pub mod Declarations
+pub mod Ends
+pub mod EnumTypes
+pub mod Frames
+pub mod Headers
+pub mod Lines
+pub mod MaxNames
+pub mod Numbers
+pub mod Values
