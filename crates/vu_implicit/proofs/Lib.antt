@@ -1,0 +1,5 @@
+pub mod ChainLemmas
+pub mod EndLemmas
+pub mod JoinLemmas
+pub mod LengthLemmas
+pub mod TypeLemmas
