@@ -1,11 +1,13 @@
 //! Reads the files that are named as markup of the registry, and says of each whether it could; behind the word `rows` also what each
-//! declares for the API `vulkan`, or what is wrong with it; behind the word `names` also how many names are declared where all options are
-//! chosen, and what the nodes take that say at which choices each name is. It is there for the measure of how long that takes.
+//! declares for the API `vulkan`, or what is wrong with it. Behind `names` it also says how many names are declared where all options are
+//! chosen, and what the nodes take that say at which choices each name is; behind `header` it prints the header of that choice; behind
+//! `statements` it says how many statements of valid usage follow. It is there for the measure of how long that takes.
 #![tactic(auto)]
 
-ghost use Rattle.std.specs.Prelude.{◌≡◌, ◌≤◌, length, IfOk};
+ghost use Rattle.std.specs.Prelude.{◌≡◌, ◌<◌, ◌≤◌, length, true, All, IfOk};
 ghost use Rattle.reg_reader.specs.Markup.{Spells};
 
+use hdr_writer::header;
 use reg_closure::{closure, order, presence};
 use reg_reader::{Node, read_markup};
 use reg_registry::{Choice, Registry};
@@ -14,7 +16,8 @@ use std::alloc::Global;
 use std::io::Print;
 use std::{env, fs, io};
 use vkb_bytes::Memory;
-use vkb_formula::Pool;
+use vkb_formula::{NameId, Pool};
+use vu_implicit::statements;
 
 /// The longest registry of which rows are asked, in bytes.
 const MOST_BYTES: usize = 33_554_432;
@@ -25,6 +28,8 @@ enum Wish {
     Markup,
     Rows,
     Names,
+    Header,
+    Statements,
 }
 
 /// What a registry declares where all its options are chosen.
@@ -42,6 +47,8 @@ fn main(rt: HostRuntime) -> io::Result<()> {
         match path.as_str() {
             "rows" => wish = Wish::Rows,
             "names" => wish = Wish::Names,
+            "header" => wish = Wish::Header,
+            "statements" => wish = Wish::Statements,
             path => print_file(&rt, rt.alloc(), path, wish)?,
         }
     }
@@ -85,10 +92,12 @@ fn print_rows(
             let options = registry.options().len();
             let blocks = registry.blocks().len();
             println!(rt; "{path}: {names} names, {options} options, {blocks} blocks")?;
-            if wish == Wish::Names {
-                print_names(rt, alloc, path, &registry)?;
+            match wish {
+                Wish::Markup | Wish::Rows => Ok(()),
+                Wish::Names => print_names(rt, alloc, path, &registry),
+                Wish::Header => print_header(rt, alloc, path, &registry),
+                Wish::Statements => print_statements(rt, alloc, path, &registry),
             }
-            Ok(())
         }
         Err(fault) => println!(rt; "{path}: {fault}"),
     }
@@ -106,6 +115,64 @@ fn print_names(rt: &impl Print, alloc: Global, path: &str, registry: &Registry) 
         ) => println!(rt; "{path}: {declared} of them in order, {nodes} nodes of size {size}"),
         Err(Memory) => println!(rt; "{path}: out of memory"),
     }
+}
+
+/// Prints the header of a registry where all its options are chosen.
+fn print_header(rt: &impl Print, alloc: Global, path: &str, registry: &Registry) -> io::Result<()> {
+    match whole_header(alloc, registry) {
+        Ok(text) => match String::from_utf8(text) {
+            Ok(text) => print!(rt; "{text}"),
+            Err(_) => println!(rt; "{path}: no text"),
+        },
+        Err(Memory) => println!(rt; "{path}: out of memory"),
+    }
+}
+
+/// Says how many statements of valid usage follow from a registry.
+fn print_statements(
+    rt: &impl Print,
+    alloc: Global,
+    path: &str,
+    registry: &Registry,
+) -> io::Result<()> {
+    match count_statements(alloc, registry) {
+        Ok(count) => println!(rt; "{path}: {count} statements"),
+        Err(Memory) => println!(rt; "{path}: out of memory"),
+    }
+}
+
+/// The header of a registry where all its options are chosen.
+fn whole_header(alloc: Global, registry: &Registry) -> Result<Vec<u8>, Memory> {
+    let choice = all_chosen(alloc, registry)?;
+    let set = closure(alloc, registry, &choice)?;
+    let order = order(alloc, registry, &set)?;
+    let mut text = Vec::new(alloc);
+    if are_below(&order, registry.names().len()) {
+        text = header(alloc, registry, &choice, &order)?.into_vec();
+    }
+    Ok(text)
+}
+
+/// Whether all of these are below a number.
+fn are_below(ids: &[NameId], end: u32) -> bool
+    ensures { result ≡ true → All (λ id. id.0 < end) ids.now }
+{
+    for id in ids {
+        if id.0 >= end {
+            return false;
+        }
+    }
+    true
+}
+
+/// Counts the statements of all names.
+fn count_statements(alloc: Global, registry: &Registry) -> Result<usize, Memory> {
+    let mut count: usize = 0;
+    for place in 0..registry.names().len() {
+        let said = statements(alloc, registry, NameId(place))?;
+        count = count.saturating_add(said.len());
+    }
+    Ok(count)
 }
 
 /// Counts what a registry declares where all its options are chosen.

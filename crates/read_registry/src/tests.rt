@@ -1,4 +1,4 @@
-//! What registries declare at choices of their options, in which order, and which choices are permitted.
+//! What registries declare at choices of their options, in which order, which choices are permitted, and the statements that follow.
 ghost use Rattle.std.specs.Prelude.{◌≡◌, length, IfOk};
 
 use super::*;
@@ -7,7 +7,10 @@ use std::test::Fail;
 use vkb_formula::NameId;
 
 mod choices;
+mod header_texts;
+mod headers;
 mod names;
+mod statements;
 
 /// The registry of a text, for the API `vulkan`.
 fn registry_of(alloc: Global, text: &[u8]) -> Result<Registry, Fail> {
