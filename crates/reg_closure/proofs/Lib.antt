@@ -2,6 +2,7 @@ pub mod AllNamesLemmas
 pub mod BoundLemmas
 pub mod ClosingLemmas
 pub mod DecideLemmas
+pub mod ExistLemmas
 pub mod ListedLemmas
 pub mod MadeLemmas
 pub mod MarkLemmas

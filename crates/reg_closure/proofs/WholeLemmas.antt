@@ -4,17 +4,18 @@ use Rattle.std.proofs.lemmas.Bool.{cases_order}
 use Rattle.std.proofs.lemmas.Option.{slice_get_within}
 use Rattle.vkb_formula.specs.declared.name_table.NameId.{NameId}
 use Rattle.reg_registry.specs.declared.registry.Row.{Row}
-use Rattle.reg_registry.specs.Naming.{AreSound, Leads, step, more, Names, NoneTwice}
+use Rattle.reg_registry.specs.Naming.{AreSound, IsOnCircle, Leads, step, more, Names, NoneTwice}
 use Rattle.reg_registry.specs.Rows.{Rows, id_at}
 use Rattle.reg_closure.proofs.PlacedLemmas.{Contains-at, Contains-cases, Contains-first, Contains-rest, in-names, names-in, place-of, place-take, take-place}
 use Rattle.reg_closure.specs.Closure.{IsIn}
+use Rattle.reg_closure.specs.Existence.{OrdersHaveAll}
 use Rattle.reg_closure.specs.Laws.{OrdersAreWhole}
 use Rattle.reg_closure.specs.Orders.{HasEachOnce, IsClosedSet, IsOrder, StandBehind}
 use Rattle.reg_closure.specs.Waiting.{ArePlaced}
 use Rattle.reg_closure.proofs.NumberLemmas.{StandOnce, few-below, has-or-not, none-twice}
 
 -- the one list has all these names, or one that it hasn't is told
-all-or-one : (xs : List ℕ) (ids : List NameId)
+pub all-or-one : (xs : List ℕ) (ids : List NameId)
     → ((other : ℕ) → Contains ids (id_at other) → Contains xs other) ⊎ ((other : ℕ) × Contains ids (id_at other) × (Contains xs other → ⊥))
 all-or-one xs [] = inl (λ other c. absurd (omega (arith, c.1)))
 all-or-one xs (id ∷ ids) =
@@ -56,12 +57,12 @@ row-at [] place l = absurd (omega (arith, l))
 row-at (row ∷ rows) zero l = (row, refl)
 row-at (row ∷ rows) (suc place) l = row-at rows place (omega (arith, l))
 
-module _ (r : Rows) (set : List Bool) (order : List ℕ) (sound : AreSound r) (count : length set ≡ length r.names) (closed : IsClosedSet r.rows set)
+module _ (r : Rows) (set : List Bool) (order : List ℕ) (rows_count : length r.rows ≡ length r.names) (no_circle : (place : ℕ) → IsOnCircle r.rows place → ⊥) (count : length set ≡ length r.names) (closed : IsClosedSet r.rows set)
     (o : IsOrder r.rows set order) where
   -- what isn't placed names something that isn't
   next : (place : ℕ) → IsIn set place → (Contains order place → ⊥) → (other : ℕ) × Names r.rows place other × (Contains order other → ⊥)
   next place i n =
-      let l : place < length r.rows = omega (arith, slice_get_within set place true i, count, sound.rows_count) in
+      let l : place < length r.rows = omega (arith, slice_get_within set place true i, count, rows_count) in
       let at = row-at r.rows place l in
       ⊎_elim
       (λ all. absurd (o.whole place (record { one = i; new = n; after = λ other m. all other (names-in r.rows place at.0 at.1 other m) })))
@@ -82,7 +83,7 @@ module _ (r : Rows) (set : List Bool) (order : List ℕ) (sound : AreSound r) (c
         (λ d. leads-on r.rows (lead x d) after.1) (Contains-cases place chain x c)
 
     once-on : NoneTwice (after.0 ∷ place ∷ chain)
-    once-on = ((λ c. sound.no_circle after.0 (lead-on after.0 c)), once)
+    once-on = ((λ c. no_circle after.0 (lead-on after.0 c)), once)
 
     below-on : (x : ℕ) → Contains (after.0 ∷ place ∷ chain) x → x < length set
     below-on x c =
@@ -116,4 +117,7 @@ module _ (r : Rows) (set : List Bool) (order : List ℕ) (sound : AreSound r) (c
   )
 
 pub orders-whole : OrdersAreWhole
-orders-whole r set order sound count closed o = whole r set order sound count closed o
+orders-whole r set order sound count closed o = whole r set order sound.rows_count sound.no_circle count closed o
+
+pub orders-have-all : OrdersHaveAll
+orders-have-all r set order rows_count no_circle count closed o = whole r set order rows_count no_circle count closed o

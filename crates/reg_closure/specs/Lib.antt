@@ -1,4 +1,5 @@
 pub mod Closure
+pub mod Existence
 pub mod Laws
 pub mod Listed
 pub mod Made

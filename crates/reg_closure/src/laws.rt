@@ -1,4 +1,5 @@
 //! What closures and orders are, in other words: none of these does anything, and its clause is what is proved.
+ghost use Rattle.reg_closure.specs.Existence.{ClosuresAreThere, OrdersAreThere, OrdersHaveAll};
 ghost use Rattle.reg_closure.specs.Laws.{ClosuresAreClosed, ClosuresAreOne, InClosureOrNot, OrdersAreOne, OrdersAreWhole, OrdersOfParts};
 
 use reg_registry::names_lead_or_not;
@@ -33,4 +34,21 @@ pub fn orders_are_whole()
 /// A law: the order of a closed part is the order of the whole, without the names that aren't in the part.
 pub fn orders_of_parts()
     ensures { OrdersOfParts }
+{}
+
+/// A law: each choice has a closure.
+pub fn closures_are_there()
+    ensures { ClosuresAreThere }
+{
+    names_are_declared_or_not();
+}
+
+/// A law: each set has an order.
+pub fn orders_are_there()
+    ensures { OrdersAreThere }
+{}
+
+/// A law: the order of a closed set of names that lie on no circle has each of them once, behind all that it names.
+pub fn orders_have_all()
+    ensures { OrdersHaveAll }
 {}

@@ -25,8 +25,8 @@ mod whole;
 
 pub use closing::closure;
 pub use laws::{
-    closures_are_closed, names_are_declared_or_not, one_closure, one_order, orders_are_whole,
-    orders_of_parts,
+    closures_are_closed, closures_are_there, names_are_declared_or_not, one_closure, one_order,
+    orders_are_there, orders_are_whole, orders_have_all, orders_of_parts,
 };
 pub use ordering::order;
 pub use presences::presence;

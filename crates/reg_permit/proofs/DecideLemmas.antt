@@ -2,6 +2,7 @@
 use Rattle.std.proofs.Common.{◌≡◌, ◌⊎◌, ℕ, zero, suc, ◌<◌, ◌≤◌, inl, inr, ⊎_elim, Bool, true, false, List, length, Option, Some, None, slice_get, refl, sym, ap, subst, ◌∙◌, arith}
 use Rattle.std.proofs.lemmas.Bool.{cases_lt, true≢false}
 use Rattle.std.proofs.lemmas.Option.{none-some, same_Some, slice_get_within}
+use Rattle.vkb_bytes.specs.First.{IsFirst}
 use Rattle.vkb_formula.specs.Formulas.{value_of}
 use Rattle.vkb_formula.specs.declared.name_table.NameId.{NameId}
 use Rattle.reg_registry.specs.Laws.{AreWithin}
@@ -9,8 +10,9 @@ use Rattle.reg_registry.specs.Rows.{Rows}
 use Rattle.reg_registry.specs.declared.registry.OptionRow.{OptionRow}
 use Rattle.reg_closure.specs.Closure.{IsIn, IsInClosure}
 use Rattle.reg_closure.specs.Laws.{InClosureOrNot}
+use Rattle.reg_permit.specs.Existence.{PermittedOrFirst}
 use Rattle.reg_permit.specs.Laws.{PermittedOrNot}
-use Rattle.reg_permit.specs.Permitted.{IsFeature, IsLower, IsLowest, IsPermitted, KeepsFeature, KeepsRule}
+use Rattle.reg_permit.specs.Permitted.{BreaksRule, IsFeature, IsLower, IsLowest, IsPermitted, KeepsFeature, KeepsRule}
 use Rattle.reg_permit.proofs.OrderLemmas.{lower-itself, lower-lower, one-number, order}
 
 -- it holds or it doesn't
@@ -146,3 +148,35 @@ module _ (inside-or-not : InClosureOrNot) (r : Rows) (chosen : List Bool) (there
 
 pub each-permitted-or-not : InClosureOrNot → PermittedOrNot
 each-permitted-or-not inside-or-not r chosen there = permitted-or-not inside-or-not r chosen there
+
+-- the first of so many that fails, or all pass
+first-or-all : (P : ℕ → Type 0) (Fails : ℕ → Type 0) → ((k : ℕ) → P k → Fails k → ⊥) → ((k : ℕ) → P k ⊎ Fails k) → (n : ℕ) → ((k : ℕ) × IsFirst Fails k) ⊎ ((k : ℕ) → k < n → P k)
+first-or-all P Fails apart decide zero = inr (λ k below. absurd (omega (arith, below)))
+first-or-all P Fails apart decide (suc n) =
+    ⊎_elim
+    (λ found. inl found)
+    (λ (all : (k : ℕ) → k < n → P k). ⊎_elim
+    (λ (here : P n). inr (λ k below. ⊎_elim (λ (l : k < n). all k l) (λ (e : k ≡ n). subst P (sym e) here) (below-or-last k n below)))
+    (λ (fails : Fails n). inl (n, record { here = fails; first = λ before l other. apart before (all before l) other }))
+    (decide n))
+    (first-or-all P Fails apart decide n)
+
+module _ (inside-or-not : InClosureOrNot) (r : Rows) (chosen : List Bool) (there : AreWithin r.rows) where
+  -- the rule of the option at a place, if one stands there
+  abbrev KeepsAt : ℕ → Type 0
+  KeepsAt place = (o : OptionRow) → slice_get r.option_rows place ≡ Some o → KeepsRule r chosen place o
+
+  keeps-or-breaks : (place : ℕ) (o : Option OptionRow) → slice_get r.option_rows place ≡ o → KeepsAt place ⊎ BreaksRule r chosen place
+  keeps-or-breaks place None e = inl (λ o here. absurd (none-some o (sym e ∙ here)))
+  keeps-or-breaks place (Some o) e =
+      ⊎_elim (λ rule. inl (λ p here. subst (KeepsRule r chosen place) (same_Some o p (sym e ∙ here)) rule)) (λ none. inr (o, e, none))
+      (rule-or-not inside-or-not r chosen there place o e o.version refl o.bit refl)
+
+  permitted-or-first : IsPermitted r chosen ⊎ ((place : ℕ) × IsFirst (BreaksRule r chosen) place)
+  permitted-or-first =
+      ⊎_elim (λ found. inr found)
+      (λ (all : (place : ℕ) → place < length r.option_rows → KeepsAt place). inl (λ place o here. all place (slice_get_within r.option_rows place o here) o here))
+      (first-or-all KeepsAt (BreaksRule r chosen) (λ place keeps breaks. breaks.2 (keeps breaks.0 breaks.1)) (λ place. keeps-or-breaks place (slice_get r.option_rows place) refl) (length r.option_rows))
+
+pub each-permitted-or-first : InClosureOrNot → PermittedOrFirst
+each-permitted-or-first inside-or-not r chosen there = permitted-or-first inside-or-not r chosen there

@@ -1,4 +1,5 @@
 pub mod Choices
+pub mod Existence
 pub mod Laws
 pub mod Lowest
 pub mod Nodes

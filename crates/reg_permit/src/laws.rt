@@ -1,4 +1,5 @@
 //! Choices that are always permitted: none of these does anything, and its clause is what is proved.
+ghost use Rattle.reg_permit.specs.Existence.{PermittedOrFirst};
 ghost use Rattle.reg_permit.specs.Laws.{BareIsFree, LowestIsPermitted, PermittedOrNot};
 
 use reg_closure::names_are_declared_or_not;
@@ -16,6 +17,13 @@ pub fn bare_is_free()
 /// A law: a choice is permitted, or it isn't.
 pub fn choices_are_permitted_or_not()
     ensures { PermittedOrNot }
+{
+    names_are_declared_or_not();
+}
+
+/// A law: a choice is permitted, or there is a first option whose rule it breaks.
+pub fn choices_are_permitted_or_break_one_first()
+    ensures { PermittedOrFirst }
 {
     names_are_declared_or_not();
 }

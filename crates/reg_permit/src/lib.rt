@@ -20,7 +20,10 @@ mod putting;
 mod rules;
 
 pub use choosing::{ChoiceFault, choice_of, is_permitted};
-pub use laws::{bare_is_free, choices_are_permitted_or_not, lowest_is_permitted};
+pub use laws::{
+    bare_is_free, choices_are_permitted_or_break_one_first, choices_are_permitted_or_not,
+    lowest_is_permitted,
+};
 pub use permitting::permit_node;
 pub use vkb_bytes::Memory;
 
