@@ -12,8 +12,9 @@
 //! let text = header(alloc, &registry, &choice, &order)?;
 //! ```
 //!
-//! Each part is put behind a text that grows (`lines`): a type's values that stand at a choice (`values`, with `numbers`) between what stands before and
-//! behind them (`enum_types`, with `max_names`), the declarations by kind (`declarations`, with `functions` and `chains`), and the header (`headers`).
+//! Each part is put behind a text that grows (`lines`): a type's values that stand at a choice (`values`, with `numbers`) between what stands
+//! before and behind them (`enum_types`, with `max_names`), the declarations by kind (`declarations`, with `types`, `functions` and `chains`),
+//! and the header (`headers`).
 #![tactic(auto)]
 
 mod chains;

@@ -38,7 +38,8 @@ fn is_active(block: &Block, chosen: &[bool]) -> bool
     chosen[block.owner as usize] && block.depends.value(chosen)
 }
 
-/// Puts the lines of the values that stand where these blocks are active behind a text. The time is linear in the values and the blocks that these list.
+/// Puts the lines of the values that stand where these blocks are active behind a text. The time is linear in the values and the blocks that
+/// these list.
 pub(crate) fn put_values(
     alloc: Global,
     text: &mut Vec<u8>,

@@ -1,5 +1,5 @@
 -- What is asked of the files has one first fault, and two outcomes of the same words and files are alike.
-use Rattle.std.proofs.Common.{inl, inr, ◌≡◌, ◌≢◌, ◌⊎◌, ℕ, List, [], Option, Some, None, slice_get, false, refl, sym, ap, ◌∙◌, subst}
+use Rattle.std.proofs.Common.{inl, inr, ◌≡◌, ◌≢◌, ◌⊎◌, ℕ, Bool, List, [], Option, Some, None, slice_get, false, refl, sym, ap, ◌∙◌, subst}
 use Rattle.std.proofs.lemmas.Bool.{cases_order, false≢true}
 use Rattle.std.proofs.lemmas.List.Elements.{All-get_or}
 use Rattle.std.proofs.lemmas.Option.{get_or_from_slice_get, none-some, same_Some, slice_get_within}
@@ -12,21 +12,25 @@ use Rattle.doc_build.specs.declared.Place.{Place}
 use Rattle.reg_reader.specs.Laws.{OneAnswer}
 use Rattle.reg_registry.specs.Rows.{Rows}
 use Rattle.reg_rows.specs.Laws.{AnswersAreOne}
+use Rattle.vkb_formula.specs.declared.name_table.NameId.{NameId}
+use Rattle.reg_closure.specs.Laws.{ClosuresAreOne, OrdersAreOne}
+use Rattle.hdr_writer.specs.Headers.{header}
 use Rattle.doc_build.specs.Choices.{Choice, registry_setting}
 use Rattle.lift_check.specs.Verdict.{IsVerdict}
 use Rattle.lift_check.specs.declared.Verdict.{Verdict}
 use Rattle.lift_check.specs.declared.Verdict.TheVariants.{No, Yes}
 use Rattle.vu_tags.specs.Tagged.{Names}
-use Rattle.vkb_tool.specs.declared.status.Status.TheVariants.{Broken, Refused, Usage}
+use Rattle.vkb_tool.specs.declared.status.Status.TheVariants.{Broken, Done, Refused, Usage}
 use Rattle.vkb_tool.specs.declared.words.Request.{Request}
-use Rattle.vkb_tool.specs.declared.words.Request.TheVariants.{Check, Tag}
+use Rattle.vkb_tool.specs.declared.words.Request.TheVariants.{Check, Header, Tag}
 use Rattle.vkb_tool.specs.declared.registry.RegistryFault.{RegistryFault}
-use Rattle.vkb_tool.specs.Fault.{Fault, BadTag, InDocument, InRegistry, NoNumber, NotBuilt, TooManyNames}
-use Rattle.vkb_tool.specs.Outcome.{AreBuilt, Effect, HasNoFault, IsCheckFault, IsChecked, IsFaultIn, IsFirstFault, IsFirstUnbuilt, IsOffered, IsRegistryOf, NameOneCircle, NameOnePlace, Outcome, TellsPlace, checked, determined, is_unbuilt, misplaced, most_text, puts_tags, refused, settled, status_of, tagged, writes_alone}
+use Rattle.vkb_tool.specs.Fault.{Fault, BadTag, InDocument, InRegistry, NoNumber, NotBuilt, NotPermitted, TooManyNames, UnknownOption}
+use Rattle.vkb_tool.specs.Outcome.{AreBuilt, Effect, HasNoFault, IsCheckFault, IsChecked, IsDeclared, IsFaultIn, IsFirstFault, IsFirstUnbuilt, IsOffered, IsRegistryOf, NameOneCircle, NameOnePlace, Outcome, TellsPlace, checked, declared as headed, determined, is_unbuilt, misplaced, most_text, puts_tags, refused, settled, status_of, tagged, writes_alone}
 use Rattle.vkb_tool.specs.Registry.{IsRegistryFault}
 use Rattle.vkb_tool.specs.Report.{fault_line, report_of, usage_line}
 use Rattle.vkb_tool.specs.Tags.{texts_of}
 use Rattle.vkb_tool.specs.Words.{Spells}
+use Rattle.vkb_tool.proofs.HeaderLemmas.{one_header, same_header_fault}
 use Rattle.vkb_tool.proofs.OutcomeLemmas.{same_registry_of, sound_registry}
 use Rattle.vkb_tool.proofs.RegistryLemmas.{alike_determined, one_registry_fault}
 use Rattle.vkb_tool.proofs.TagsLemmas.{OnePages, same_tags_fault}
@@ -60,6 +64,10 @@ same_fault_in r lines (InRegistry file api fault) other is also = absurd is
 same_fault_in r lines fault (InRegistry file api other) is also = absurd also
 same_fault_in r lines (InDocument fault) other is also = absurd is
 same_fault_in r lines fault (InDocument other) is also = absurd also
+same_fault_in r lines (UnknownOption word) other is also = absurd is
+same_fault_in r lines fault (UnknownOption word) is also = absurd also
+same_fault_in r lines (NotPermitted option) other is also = absurd is
+same_fault_in r lines fault (NotPermitted option) is also = absurd also
 same_fault_in r lines (BadTag file number) other is also = absurd is
 same_fault_in r lines fault (BadTag file number) is also = absurd also
 same_fault_in r lines (NoNumber needed left) other is also = absurd is
@@ -112,6 +120,8 @@ module _ (one_walk : OneWalk) (one_answer : OneAnswer) (one_rows : AnswersAreOne
   kind_of files registry root api always (InDocument walked) is = in_walk walked refl is.0 is.1
   kind_of files registry root api always (NotBuilt file number) is = in_lines is.0 is.1 is.2 is.3
   kind_of files registry root api always (TooManyNames count) is = in_lines is.0 is.1 is.2 is.3
+  kind_of files registry root api always (UnknownOption word) is = absurd is
+  kind_of files registry root api always (NotPermitted option) is = absurd is
   kind_of files registry root api always (BadTag file number) is = absurd is
   kind_of files registry root api always (NoNumber needed left) is = absurd is
 
@@ -144,6 +154,7 @@ module _ (one_walk : OneWalk) (one_answer : OneAnswer) (one_rows : AnswersAreOne
   pub same_fault : (request : Request) (files : Files) (fault other : Fault) → IsFirstFault request files fault → IsFirstFault request files other → determined fault ≡ determined other
   same_fault (Check registry root api always) files fault other is also =
       same_kinds files registry root api always fault other (kind_of files registry root api always fault is) (kind_of files registry root api always other also)
+  same_fault (Header registry api names) files fault other is also = same_header_fault one_answer one_rows files registry api names fault other is also
   same_fault (Tag first names) files fault other is also = ap determined (same_tags_fault files first names fault other is also)
 
 -- ---- one outcome
@@ -192,7 +203,7 @@ faults_alike words files request fault other spelled is also same = record {
 abbrev answer_of : List FlatLine → List (List ℕ) → Verdict → Effect
 answer_of lines options verdict = writes_alone (status_of verdict) (report_of lines options verdict)
 
-module _ (one_walk : OneWalk) (one_answer : OneAnswer) (one_rows : AnswersAreOne) (one_pages : OnePages)
+module _ (one_walk : OneWalk) (one_answer : OneAnswer) (one_rows : AnswersAreOne) (one_pages : OnePages) (one_closures : ClosuresAreOne) (one_orders : OrdersAreOne)
     (same_count : (always : List (List ℕ)) (r : Rows) (lines : List FlatLine) (links more : ℕ) → IsVerdict (registry_setting always r) lines (Yes links) → IsVerdict (registry_setting always r) lines (Yes more) → links ≡ more)
     (never_both : (always : List (List ℕ)) (r : Rows) (lines : List FlatLine) (links : ℕ) (place : Place) (id : List ℕ) (choice : Choice) (count : ℕ)
     → IsVerdict (registry_setting always r) lines (Yes links) → ¬ (IsVerdict (registry_setting always r) lines (No place id choice count)))
@@ -279,6 +290,27 @@ module _ (one_walk : OneWalk) (one_answer : OneAnswer) (one_rows : AnswersAreOne
       let files_are : names ≡ others = cc in
       rw (numbers, files_are) (ap (λ (p : Names). puts_tags p number others (texts_of files others)) same)
 
+  -- words that ask for a header don't ask for a check, or for tags
+  no_check_asked : (registry : Option (List ℕ)) (root api file word : List ℕ) (always names : List (List ℕ)) → Spells words (Check registry root api always) → Spells words (Header file word names) → ⊥
+  no_check_asked registry root api file word always names spelled also =
+      let same = same_request words (Check registry root api always) (Header file word names) spelled also in cc
+
+  no_tags_asked : (file word : List ℕ) (names : List (List ℕ)) (first : ℕ) (others : List (List ℕ)) → Spells words (Header file word names) → Spells words (Tag first others) → ⊥
+  no_tags_asked file word names first others spelled also =
+      let same = same_request words (Header file word names) (Tag first others) spelled also in cc
+
+  -- two headers for one request
+  headers_same : (registry file api word : List ℕ) (names others : List (List ℕ)) (r rows : Rows) (chosen picked : List Bool) (order listed : List NameId) → Header file word others ≡ Header registry api names
+      → IsDeclared files registry api names r chosen order → IsDeclared files file word others rows picked listed → header r chosen order ≡ header rows picked listed
+  headers_same registry file api word names others r rows chosen picked order listed same is also =
+      let files_are : file ≡ registry = cc in
+      let apis : word ≡ api = cc in
+      let sets : others ≡ names = cc in
+      let one : IsDeclared files registry word others rows picked listed = subst (λ (f : List ℕ). IsDeclared files f word others rows picked listed) files_are also in
+      let two : IsDeclared files registry api others rows picked listed = subst (λ (f : List ℕ). IsDeclared files registry f others rows picked listed) apis one in
+      let there : IsDeclared files registry api names rows picked listed = subst (λ (f : List (List ℕ)). IsDeclared files registry api f rows picked listed) sets two in
+      one_header one_answer one_rows one_closures one_orders files registry api names r rows chosen picked order listed is there
+
   -- two outcomes are alike
   outcomes_alike : (effect other : Effect) → Outcome words files effect → Outcome words files other → AreAlike words files effect other
   outcomes_alike _ _ (misplaced position is) (misplaced place also) =
@@ -311,6 +343,23 @@ module _ (one_walk : OneWalk) (one_answer : OneAnswer) (one_rows : AnswersAreOne
   outcomes_alike _ _ (tagged first names pages spelled sound tells) (tagged number others leaves also right said) =
       same_alike words files (puts_tags pages first names (texts_of files names)) (puts_tags leaves number others (texts_of files others)) (λ e. cc)
       (same_tags first number names others pages leaves (same_request words (Tag first names) (Tag number others) spelled also) (one_pages pages leaves tells said))
+  outcomes_alike _ _ (misplaced position is) (headed registry api names r chosen order spelled sound tells) = absurd (is.none (Header registry api names) spelled)
+  outcomes_alike _ _ (refused request fault spelled flawed) (headed registry api names r chosen order also sound tells) =
+      absurd (never_refused request (Header registry api names) fault spelled also flawed sound)
+  outcomes_alike _ _ (checked registry root api always r lines verdict spelled sound made judged) (headed file word names rows chosen order also right tells) =
+      absurd (no_check_asked registry root api file word always names spelled also)
+  outcomes_alike _ _ (tagged first others pages spelled sound said) (headed file word names rows chosen order also right tells) =
+      absurd (no_tags_asked file word names first others also spelled)
+  outcomes_alike _ _ (headed registry api names r chosen order spelled sound tells) (misplaced position is) = absurd (is.none (Header registry api names) spelled)
+  outcomes_alike _ _ (headed registry api names r chosen order spelled sound tells) (refused request fault also flawed) =
+      absurd (never_refused request (Header registry api names) fault also spelled flawed sound)
+  outcomes_alike _ _ (headed file word names rows chosen order spelled sound tells) (checked registry root api always r lines verdict also right made judged) =
+      absurd (no_check_asked registry root api file word always names also spelled)
+  outcomes_alike _ _ (headed file word names rows chosen order spelled sound tells) (tagged first others pages also right said) =
+      absurd (no_tags_asked file word names first others spelled also)
+  outcomes_alike _ _ (headed registry api names r chosen order spelled sound tells) (headed file word others rows picked listed also right said) =
+      same_alike words files (writes_alone Done (header r chosen order)) (writes_alone Done (header rows picked listed)) (λ e. cc)
+      (ap (writes_alone Done) (headers_same registry file api word names others r rows chosen picked order listed (same_request words (Header file word others) (Header registry api names) also spelled) tells said))
 
   pub same_status : (effect other : Effect) → Outcome words files effect → Outcome words files other → effect.status ≡ other.status
   same_status effect other is also = (outcomes_alike effect other is also).status_is

@@ -26,7 +26,7 @@ use Rattle.lift_check.specs.Choices.{most_options}
 use Rattle.lift_check.specs.Verdict.{IsVerdict}
 use Rattle.lift_check.specs.declared.Verdict.{Verdict}
 use Rattle.lift_check.specs.declared.Verdict.TheVariants.{Yes, No}
-use Rattle.vkb_tool.specs.Fault.{Fault, BadTag, InDocument, InRegistry, NoNumber, NotBuilt, TooManyNames}
+use Rattle.vkb_tool.specs.Fault.{Fault, BadTag, InDocument, InRegistry, NoNumber, NotBuilt, NotPermitted, TooManyNames, UnknownOption}
 use Rattle.vkb_tool.specs.Outcome.{AreBuilt, IsFaultIn, IsFirstUnbuilt, is_unbuilt}
 
 -- what isn't there is nothing
@@ -111,6 +111,8 @@ no_pages_set declared (first ∷ lines) built =
 pub nothing_wrong : (r : Rows) (lines : List FlatLine) → AreBuilt r.names lines → length r.options ≤ most_options → (fault : Fault) → ¬ IsFaultIn r lines fault
 nothing_wrong r lines built few (InRegistry file api fault) is = is
 nothing_wrong r lines built few (InDocument fault) is = is
+nothing_wrong r lines built few (UnknownOption word) is = is
+nothing_wrong r lines built few (NotPermitted option) is = is
 nothing_wrong r lines built few (BadTag file number) is = is
 nothing_wrong r lines built few (NoNumber needed left) is = is
 nothing_wrong r lines built few (NotBuilt file number) (line, first, named, numbered) =

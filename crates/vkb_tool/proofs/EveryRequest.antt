@@ -11,11 +11,12 @@ use Rattle.std.proofs.lemmas.Str.{IsUtf8-from_is_utf8, is_utf8-from_IsUtf8}
 use Rattle.doc_cond.specs.Lines.{is_name_byte, is_run}
 use Rattle.vkb_bytes.specs.Numbers.{numeral_of}
 use Rattle.vkb_formula.specs.Names.{AreDifferent}
-use Rattle.vkb_tool.specs.Reading.{IsNoAttribute, IsNoFile, IsNumbered, SetsAttributes, goes_with, registry_by}
-use Rattle.vkb_tool.specs.Words.{IsApiOf, IsAttribute, IsFileName, IsMisplaced, Spells, WritesFirst, attribute_word}
+use Rattle.vkb_tool.specs.Reading.{IsNoAttribute, IsNoFile, IsNoOption, IsNumbered, IsRegistryNamed, NamesOptions, SetsAttributes, goes_with, registry_by}
+use Rattle.vkb_tool.specs.Words.{IsApiName, IsApiOf, IsAttribute, IsFileName, IsMisplaced, IsOptionWord, Spells, WritesFirst, attribute_word, is_api_byte, names_option}
 use Rattle.vkb_tool.specs.declared.words.Request.{Request}
-use Rattle.vkb_tool.specs.declared.words.Request.TheVariants.{Check, Tag}
+use Rattle.vkb_tool.specs.declared.words.Request.TheVariants.{Check, Header, Tag}
 use Rattle.vkb_tool.proofs.WordsLemmas.{check_words, front_4, goes_back, misplaced_first, misplaced_fourth, misplaced_second, misplaced_third, no_attribute_at}
+use Rattle.vkb_tool.proofs.HeaderWordsLemmas.{header_3, header_words, no_api, no_option_at, no_registry}
 use Rattle.vkb_tool.proofs.TagWordsLemmas.{first_two, no_file_at, no_file_named, no_number, tag_words}
 
 -- bytes are the same or not
@@ -278,13 +279,95 @@ every_tag words tag =
     none_different : AreDifferent []
     none_different i j name is also = absurd (none-some name is)
 
+-- a word is one for an option or not
+option_or_not : (word : List ℕ) → IsOptionWord word ⊎ (¬ IsOptionWord word)
+option_or_not word =
+    elim (cases_Bool (names_option word)) [
+      | inl is ↦ inl is
+      | inr not_so ↦ inr (λ is. false≢true (sym not_so ∙ is))
+    ]
+
+-- a word behind three and some for options, which is none
+no_option : (words front names rest : List (List ℕ)) (word : List ℕ) → front ≡ take 3 words ++ names → 3 ≤ length front → All IsOptionWord names → words ≡ front ++ word ∷ rest → ¬ IsOptionWord word
+    → IsNoOption words (length front + 1)
+no_option words front names rest word front_is three set split none =
+    let back : length front + 1 - 1 ≡ length front = omega arith in
+    let before : take (length front) words ≡ front = ap (take (length front)) split ∙ taken_front front (word ∷ rest) in
+    let read : slice_get words (length front) ≡ Some word = ap (λ (ws : List (List ℕ)). slice_get ws (length front)) split ∙ word_behind front rest word in
+    let inside = slice_get_within words (length front) word read in
+    record {
+      names = names;
+      names_are = set;
+      before = rw back (before ∙ front_is);
+      behind = omega arith;
+      within = omega arith;
+      here = λ name is e. none (subst IsOptionWord (sym (same_Some word name (sym read ∙ ap (slice_get words) (sym back) ∙ e))) is);
+    }
+
+-- the words behind three are all for options, or one is the first that is none
+read_options : (words front names rest : List (List ℕ)) → front ≡ take 3 words ++ names → 3 ≤ length front → All IsOptionWord names → words ≡ front ++ rest
+    → ((all : List (List ℕ)) × NamesOptions words all) ⊎ ((position : ℕ) × IsNoOption words position)
+read_options words front names [] front_is three set split = inl (names, record { names_are = set; words_are = split ∙ append-nil front ∙ front_is })
+read_options words front names (word ∷ rest) front_is three set split =
+    elim (option_or_not word) [
+      | inr none ↦ inr (length front + 1, no_option words front names rest word front_is three set split none)
+      | inl is ↦
+          let more = names ++ word ∷ [] in
+          let longer : front ++ word ∷ [] ≡ take 3 words ++ more = ap (λ (ws : List (List ℕ)). ws ++ word ∷ []) front_is ∙ append_assoc (take 3 words) names (word ∷ []) in
+          let long : 3 ≤ length (front ++ word ∷ []) = simp length-append (omega arith) in
+          read_options words (front ++ word ∷ []) more rest longer long (All-push IsOptionWord names word set is) (split ∙ sym (append_assoc front (word ∷ []) rest))
+    ]
+
+-- what is found is the name of an API or not
+api_or_not : (found : Option (List ℕ)) → ((api : List ℕ) × (found ≡ Some api) × IsApiName api) ⊎ ((api : List ℕ) → found ≡ Some api → ¬ IsApiName api)
+api_or_not None = inr (λ api e is. none-some api e)
+api_or_not (Some word) =
+    elim (cases_Bool (is_run is_api_byte word)) [
+      | inl run ↦ inl (word, refl, run)
+      | inr not_so ↦ inr (λ api e is. false≢true (sym not_so ∙ ap (is_run is_api_byte) (same_Some word api e) ∙ is))
+    ]
+
+-- the words behind the first three of a request for a header
+every_option : (words : List (List ℕ)) (registry api : List ℕ) → IsApiOf (Some registry) api → take 3 words ≡ header_words registry api [] → 3 ≤ length words
+    → ((request : Request) × Spells words request) ⊎ ((position : ℕ) × IsMisplaced words position)
+every_option words registry api goes front three =
+    let long : 3 ≤ length (take 3 words) = simp length-take (omega arith) in
+    elim (read_options words (take 3 words) [] (drop 3 words) (sym (append-nil (take 3 words))) long (All-nil IsOptionWord) (sym (take-append-drop 3 words))) [
+      | inl (names, is) ↦ inl (Header registry api names, (goes, is.names_are, is.words_are ∙ ap (λ (ws : List (List ℕ)). ws ++ names) front))
+      | inr (position, wrong) ↦ inr (position, no_option_at words registry api position goes front wrong)
+    ]
+
+-- the words behind the first two
+every_api : (words : List (List ℕ)) (registry : List ℕ) → slice_get words 0 ≡ Some (codes "header") → IsRegistryNamed words registry → ((request : Request) × Spells words request) ⊎ ((position : ℕ) × IsMisplaced words position)
+every_api words registry first second =
+    elim (api_or_not (slice_get words 2)) [
+      | inr none ↦ inr (3, no_api words registry first second (λ api is. none api is.0 is.1))
+      | inl (api, third, run) ↦
+          let within = slice_get_within words 2 api third in
+          every_option words registry api (second.0.1, second.1, run) (header_3 words registry api first second.0.0 third) (omega arith)
+    ]
+
+-- the words of a request for a header, or one of them is the first that has no place
+every_header : (words : List (List ℕ)) → slice_get words 0 ≡ Some (codes "header") → ((request : Request) × Spells words request) ⊎ ((position : ℕ) × IsMisplaced words position)
+every_header words first =
+    elim (named_or_not (slice_get words 1)) [
+      | inr none ↦ inr (2, no_registry words first (λ name is. none name is.0.0 is.0.1))
+      | inl (name, second, is) ↦ elim (same_or_not name (codes "-")) [
+        | inl dash ↦ inr (2, no_registry words first (λ other named. named.1 (sym (same_Some name other (sym second ∙ named.0.0)) ∙ dash)))
+        | inr no_dash ↦ every_api words name first ((second, is), no_dash)
+      ]
+    ]
+
 -- each list of words is those of a request, or one of them is the first that has no place
 pub every_request : (words : List (List ℕ)) → ((request : Request) × Spells words request) ⊎ ((position : ℕ) × IsMisplaced words position)
 every_request words =
     elim (is_or_not (slice_get words 0) (codes "check")) [
       | inl check ↦ every_check words check
-      | inr no_check ↦ elim (is_or_not (slice_get words 0) (codes "tag")) [
-        | inl tag ↦ every_tag words tag
-        | inr no_tag ↦ inr (1, misplaced_first words no_check no_tag)
+      | inr no_check ↦ elim (is_or_not (slice_get words 0) (codes "header")) [
+        | inl header ↦ every_header words header
+        | inr no_header ↦ elim (is_or_not (slice_get words 0) (codes "tag")) [
+          | inl tag ↦ every_tag words tag
+          | inr no_tag ↦ inr (1, misplaced_first words no_check no_header no_tag)
+        ]
       ]
     ]

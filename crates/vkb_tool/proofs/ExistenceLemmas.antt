@@ -15,12 +15,14 @@ use Rattle.reg_registry.specs.Rows.{Rows, bare_rows}
 use Rattle.reg_registry.specs.declared.registry.Row.{Row}
 use Rattle.reg_forms.specs.Forms.{forms_of}
 use Rattle.reg_rows.specs.Laws.{AnswersAreOne, EachIsAnswered, RowsAreWithin}
+use Rattle.reg_closure.specs.Existence.{ClosuresAreThere, OrdersAreThere}
+use Rattle.reg_permit.specs.Existence.{PermittedOrFirst}
 use Rattle.reg_permit.specs.Laws.{PermittedOrNot}
 use Rattle.doc_build.specs.Choices.{free_names}
 use Rattle.lift_check.specs.Choices.{most_options}
 use Rattle.vkb_tool.specs.declared.status.Status.TheVariants.{Refused, Usage}
 use Rattle.vkb_tool.specs.declared.words.Request.{Request}
-use Rattle.vkb_tool.specs.declared.words.Request.TheVariants.{Check, Tag}
+use Rattle.vkb_tool.specs.declared.words.Request.TheVariants.{Check, Header, Tag}
 use Rattle.vkb_tool.specs.Fault.{Fault, InDocument, InRegistry, NotBuilt, TooManyNames}
 use Rattle.vkb_tool.specs.Outcome.{AreBuilt, Effect, IsChecked, IsFaultIn, IsFirstUnbuilt, IsOffered, IsRegistryOf, Outcome, checked, is_unbuilt, misplaced, most_text, refused, status_of, writes_alone}
 use Rattle.vkb_tool.specs.Report.{fault_line, report_of, usage_line}
@@ -32,6 +34,7 @@ use Rattle.vkb_tool.proofs.CheckLemmas.{nothing_wrong}
 use Rattle.vkb_tool.proofs.EveryRequest.{every_request}
 use Rattle.vkb_tool.proofs.EveryVerdict.{every_verdict}
 use Rattle.vkb_tool.proofs.TagsLemmas.{HavePages, tags_come_to}
+use Rattle.vkb_tool.proofs.HeaderLemmas.{header_told, options_come, rows_counted}
 use Rattle.vkb_tool.proofs.OutcomeLemmas.{HaveSources, IsWalked, fault_there, faultless}
 use Rattle.vkb_tool.proofs.RegistryLemmas.{every_registry}
 
@@ -70,7 +73,7 @@ fault_or_none r lines =
 abbrev HasRegistries : Files → Option (List ℕ) → List ℕ → List (List ℕ) → Type 0
 HasRegistries files registry api always = (lines : List FlatLine) → (r : Rows) × IsRegistryOf files registry api always lines r × AreWithin r.rows
 
-module _ (have : HaveSources) (one_walk : OneWalk) (pages : HavePages) (one_answer : OneAnswer) (one_rows : AnswersAreOne) (each_answered : EachIsAnswered) (rows_within : RowsAreWithin) (permitted_or_not : PermittedOrNot)
+module _ (have : HaveSources) (one_walk : OneWalk) (pages : HavePages) (one_answer : OneAnswer) (one_rows : AnswersAreOne) (each_answered : EachIsAnswered) (rows_within : RowsAreWithin) (permitted_or_not : PermittedOrNot) (closures : ClosuresAreThere) (orders : OrdersAreThere) (permitted_or_first : PermittedOrFirst)
     (words : List (List ℕ)) (files : Files) where
   -- what is checked comes to something
   checks_come : (registry : Option (List ℕ)) (root api : List ℕ) (always : List (List ℕ)) (r : Rows) (lines : List FlatLine) → Spells words (Check registry root api always) → IsOffered files registry api
@@ -120,6 +123,13 @@ module _ (have : HaveSources) (one_walk : OneWalk) (pages : HavePages) (one_answ
       elim (every_registry one_answer each_answered (files name) api) [
         | inl (r, is) ↦ check_comes (Some name) root api always spelled (r, is) (λ lines. (r, is, registry_within (files name) api r is))
         | inr (fault, is) ↦ (writes_alone Refused (fault_line (InRegistry name api fault)), refused (Check (Some name) root api always) (InRegistry name api fault) spelled (refl, refl, is))
+      ]
+  request_comes (Header registry api names) spelled =
+      elim (every_registry one_answer each_answered (files registry) api) [
+        | inl (r, is) ↦
+            let told = options_come closures orders permitted_or_first r names (rows_counted (files registry) api r is) (registry_within (files registry) api r is) in
+            (told.0, header_told one_answer one_rows files registry api names words r told.0 spelled is told.1)
+        | inr (fault, is) ↦ (writes_alone Refused (fault_line (InRegistry registry api fault)), refused (Header registry api names) (InRegistry registry api fault) spelled (refl, refl, is))
       ]
   request_comes (Tag first names) spelled = tags_come_to pages words files first names (read_fault files most_text names) spelled refl
 

@@ -1,5 +1,6 @@
 pub mod WordsLemmas
 pub mod TagWordsLemmas
+pub mod HeaderWordsLemmas
 pub mod PutLemmas
 pub mod ReportLemmas
 pub mod RegistryLemmas
@@ -11,5 +12,7 @@ pub mod TagsLemmas
 pub mod EndingsLemmas
 pub mod AgreementLemmas
 pub mod EveryRequest
+pub mod HeaderLemmas
+pub mod WholeLemmas
 pub mod EveryVerdict
 pub mod ExistenceLemmas

@@ -13,7 +13,7 @@ use Rattle.reg_registry.specs.Rows.{Rows}
 use Rattle.reg_rows.specs.Laws.{AnswersAreOne}
 use Rattle.vkb_tool.specs.declared.registry.RegistryFault.{RegistryFault}
 use Rattle.vkb_tool.specs.Check.{IsOver, IsOwn, TellsOver}
-use Rattle.vkb_tool.specs.Fault.{Fault, BadTag, InDocument, InRegistry, NoNumber, NotBuilt, TooManyNames}
+use Rattle.vkb_tool.specs.Fault.{Fault, BadTag, InDocument, InRegistry, NoNumber, NotBuilt, NotPermitted, TooManyNames, UnknownOption}
 use Rattle.vkb_tool.specs.Outcome.{Effect, HasNoFault, IsCheckFault, IsChecked, IsFaultIn, IsOffered, IsRegistryOf, Outcome, checked, most_text, refused, writes_alone}
 use Rattle.vkb_tool.specs.Registry.{IsRegistry, IsRegistryFault}
 use Rattle.vkb_tool.specs.Report.{document_fault_line, fault_line}
@@ -71,6 +71,8 @@ module _ (one_answer : OneAnswer) (one_rows : AnswersAreOne) where
       none (NotBuilt file number) (moved files registry root api always r other lines others (NotBuilt file number) walked over is stands)
   faultless files registry root api always r lines walked over offered none (TooManyNames count) (other, others, is, stands) =
       none (TooManyNames count) (moved files registry root api always r other lines others (TooManyNames count) walked over is stands)
+  faultless files registry root api always r lines walked over offered none (UnknownOption word) is = is
+  faultless files registry root api always r lines walked over offered none (NotPermitted option) is = is
   faultless files registry root api always r lines walked over offered none (BadTag file number) is = is
   faultless files registry root api always r lines walked over offered none (NoNumber needed left) is = is
 
@@ -81,6 +83,8 @@ fault_there files registry root api always r lines (InRegistry file asked fault)
 fault_there files registry root api always r lines (InDocument fault) is stands = absurd stands
 fault_there files registry root api always r lines (NotBuilt file number) is stands = (r, lines, is, stands)
 fault_there files registry root api always r lines (TooManyNames count) is stands = (r, lines, is, stands)
+fault_there files registry root api always r lines (UnknownOption word) is stands = absurd stands
+fault_there files registry root api always r lines (NotPermitted option) is stands = absurd stands
 fault_there files registry root api always r lines (BadTag file number) is stands = absurd stands
 fault_there files registry root api always r lines (NoNumber needed left) is stands = absurd stands
 

@@ -15,7 +15,7 @@ use Rattle.vu_tags.specs.declared.TagFault.TheVariants as tags
 use Rattle.vkb_tool.specs.declared.status.Status.TheVariants.{Refused}
 use Rattle.vkb_tool.specs.declared.words.Request.TheVariants.{Tag}
 use Rattle.vkb_tool.specs.Answer.{AreHeld}
-use Rattle.vkb_tool.specs.Fault.{Fault, BadTag, InDocument, InRegistry, NoNumber, NotBuilt, TooManyNames}
+use Rattle.vkb_tool.specs.Fault.{Fault, BadTag, InDocument, InRegistry, NoNumber, NotBuilt, NotPermitted, TooManyNames, UnknownOption}
 use Rattle.vkb_tool.specs.Outcome.{AreRead, Effect, IsTagsFault, Outcome, Put, most_text, puts_tags, refused, tagged, writes_alone}
 use Rattle.vkb_tool.specs.Report.{fault_line}
 use Rattle.vkb_tool.specs.Tagging.{TellsOfTags, bad_tag, new_tags, no_number}
@@ -44,6 +44,10 @@ same_tags_fault files first names (NotBuilt file number) other is also = absurd 
 same_tags_fault files first names (TooManyNames count) other is also = absurd is
 same_tags_fault files first names fault (NotBuilt file number) is also = absurd also
 same_tags_fault files first names fault (TooManyNames count) is also = absurd also
+same_tags_fault files first names (UnknownOption word) other is also = absurd is
+same_tags_fault files first names (NotPermitted option) other is also = absurd is
+same_tags_fault files first names fault (UnknownOption word) is also = absurd also
+same_tags_fault files first names fault (NotPermitted option) is also = absurd also
 same_tags_fault files first names (InDocument fault) (InDocument other) is also = ap InDocument (same_Some fault other (sym is ∙ also))
 same_tags_fault files first names (InDocument fault) (BadTag file line) is also = absurd (none-some fault (sym also.0 ∙ is))
 same_tags_fault files first names (InDocument fault) (NoNumber needed left) is also = absurd (none-some fault (sym also.0 ∙ is))
@@ -103,6 +107,8 @@ can_none files first names read can (InRegistry file api fault) is = is
 can_none files first names read can (InDocument fault) is = none-some fault (sym read ∙ is)
 can_none files first names read can (NotBuilt file number) is = is
 can_none files first names read can (TooManyNames count) is = is
+can_none files first names read can (UnknownOption word) is = is
+can_none files first names read can (NotPermitted option) is = is
 can_none files first names read can (BadTag file line) (also, (place, named, is)) = false≢true (sym can.well ∙ (bad_there (texts_of files names) place line is).0)
 can_none files first names read can (NoNumber needed left) (also, few) = let more = few.0.too_few in let enough = can.enough in omega arith
 

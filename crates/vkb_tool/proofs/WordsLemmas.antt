@@ -13,7 +13,7 @@ use Rattle.doc_cond.specs.Lines.{is_run}
 use Rattle.vkb_tool.specs.Reading.{IsApiAt, IsNamed, IsNoAttribute, goes_with, registry_by}
 use Rattle.vkb_tool.specs.Words.{IsApiOf, IsAttribute, IsFileName, Spells, IsFront, IsMisplaced, attribute_word, is_api_byte, items_of, registry_word}
 use Rattle.vkb_tool.specs.declared.words.Request.{Request}
-use Rattle.vkb_tool.specs.declared.words.Request.TheVariants.{Check, Tag}
+use Rattle.vkb_tool.specs.declared.words.Request.TheVariants.{Check, Header, Tag}
 
 pub found_word : (words : List (Vec ℕ Global)) (i : ℕ) (word : Vec ℕ Global) → i < length words → word ≡ get_or words i word → slice_get (items_of words) i ≡ Some word.items
 found_word words i word within read = slice_get-map (λ w. w.items) words i ∙ ap (option_map (λ w. w.items)) (slice_get_read words (length words) i word refl within read)
@@ -128,21 +128,25 @@ pub record IsCheckOf (words : List (List ℕ)) : Type 0 where
 spelled_at : (words : List (List ℕ)) (request : Request) → Spells words request → slice_get words 0 ≡ Some (codes "check") → IsCheckOf words
 spelled_at words (Check registry root api always) spelled first =
     record { registry = registry; root = root; api = api; always = always; goes = spelled.0; named = spelled.1; set = spelled.2; words_are = spelled.3 }
+spelled_at words (Header registry api names) spelled first = let other : Some (codes "header") ≡ Some (codes "check") = sym (ap (λ (w : List (List ℕ)). slice_get w 0) spelled.2) ∙ first in absurd (cc)
 spelled_at words (Tag number files) spelled first = let other : Some (codes "tag") ≡ Some (codes "check") = sym (ap (λ (w : List (List ℕ)). slice_get w 0) spelled.3) ∙ first in absurd (cc)
 
--- each request begins with one of two words
-first_word : (words : List (List ℕ)) (request : Request) → Spells words request → (slice_get words 0 ≡ Some (codes "check")) ⊎ (slice_get words 0 ≡ Some (codes "tag"))
+-- each request begins with one of three words
+first_word : (words : List (List ℕ)) (request : Request) → Spells words request
+    → (slice_get words 0 ≡ Some (codes "check")) ⊎ ((slice_get words 0 ≡ Some (codes "header")) ⊎ (slice_get words 0 ≡ Some (codes "tag")))
 first_word words (Check registry root api always) spelled = inl (ap (λ (w : List (List ℕ)). slice_get w 0) spelled.3)
-first_word words (Tag number files) spelled = inr (ap (λ (w : List (List ℕ)). slice_get w 0) spelled.3)
+first_word words (Header registry api names) spelled = inr (inl (ap (λ (w : List (List ℕ)). slice_get w 0) spelled.2))
+first_word words (Tag number files) spelled = inr (inr (ap (λ (w : List (List ℕ)). slice_get w 0) spelled.3))
 
 -- a first word that no request begins with
-pub misplaced_first : (words : List (List ℕ)) → slice_get words 0 ≢ Some (codes "check") → slice_get words 0 ≢ Some (codes "tag") → IsMisplaced words 1
-misplaced_first words no_check no_tag =
+pub misplaced_first : (words : List (List ℕ)) → slice_get words 0 ≢ Some (codes "check") → slice_get words 0 ≢ Some (codes "header") → slice_get words 0 ≢ Some (codes "tag") → IsMisplaced words 1
+misplaced_first words no_check no_header no_tag =
     misplaced_from words 0 (omega arith)
     (check_words None (97 ∷ []) (codes "-") [], Check None (97 ∷ []) (codes "-") [], (refl, is_name_a, All-nil IsAttribute, refl)) (λ more request spelled front same.
     elim (first_word more request spelled) [
       | inl check ↦ no_check (sym same ∙ check)
-      | inr tag ↦ no_tag (sym same ∙ tag)
+      | inr (inl header) ↦ no_header (sym same ∙ header)
+      | inr (inr tag) ↦ no_tag (sym same ∙ tag)
     ])
 
 -- the first k words are those of a check, and the next one is that of none that begins so
@@ -318,6 +322,13 @@ same_request words (Check registry root api always) (Check file name word names)
     let rest : map attribute_word always ≡ map attribute_word names = cc in
     let set = same_attributes always names rest in
     cc
+same_request words (Check registry root api always) (Header file word names) spelled also = let both = sym spelled.3 ∙ also.2 in absurd (cc)
+same_request words (Header file word names) (Check registry root api always) spelled also = let both = sym spelled.2 ∙ also.3 in absurd (cc)
+same_request words (Header registry api names) (Header file word others) spelled also =
+    let both = sym spelled.2 ∙ also.2 in
+    cc
+same_request words (Header registry api names) (Tag number files) spelled also = let both = sym spelled.2 ∙ also.3 in absurd (cc)
+same_request words (Tag number files) (Header registry api names) spelled also = let both = sym spelled.3 ∙ also.2 in absurd (cc)
 same_request words (Check registry root api always) (Tag first files) spelled also = let both = sym spelled.3 ∙ also.3 in absurd (cc)
 same_request words (Tag first files) (Check registry root api always) spelled also = let both = sym spelled.3 ∙ also.3 in absurd (cc)
 same_request words (Tag first files) (Tag number names) spelled also =

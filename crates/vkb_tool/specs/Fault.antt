@@ -13,6 +13,10 @@ pub data Fault : Type 0 where
   NotBuilt : (file : List ℕ) (line : ℕ) → Fault
   -- so many options, more than 12, are left to choose
   TooManyNames : (count : ℕ) → Fault
+  -- the word is no option of a registry: the first such word
+  UnknownOption : (word : List ℕ) → Fault
+  -- the words name a choice that isn't permitted: the first option whose rule doesn't hold
+  NotPermitted : (option : List ℕ) → Fault
   -- a line of the file has a malformed tag
   BadTag : (file : List ℕ) (line : ℕ) → Fault
   -- so many statements want a tag, and only so many numbers are left

@@ -4,7 +4,9 @@ pub mod Registry
 pub mod Fault
 pub mod Report
 pub mod Tags
+pub mod Laws
 pub mod Outcome
+pub mod Declaring
 pub mod Endings
 pub mod Answer
 pub mod Check

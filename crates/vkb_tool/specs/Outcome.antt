@@ -1,11 +1,18 @@
 -- What a run of the program comes to, of the words and the files.
-use Rattle.std.specs.Prelude.{◌≡◌, ℕ, ◌<◌, Bool, true, false, Option, Some, None, slice_get, List, [], length, take, All, ⊤}
+use Rattle.std.specs.Prelude.{◌≡◌, ℕ, ◌<◌, Bool, true, false, Option, Some, None, slice_get, slice_index_or, List, [], length, map, take, All, ⊤}
 use Rattle.vkb_outside.specs.Shelf.{Files}
 use Rattle.doc_cond.specs.declared.LineKind.{LineKind}
 use Rattle.doc_cond.specs.declared.LineKind.TheVariants.{Api, Refpage, Validity}
 use Rattle.doc_tree.specs.Flat.{FlatLine, is_among}
 use Rattle.doc_tree.specs.Walk.{IsDocument, IsFaultOf}
+use Rattle.vkb_formula.specs.declared.name_table.NameId.{NameId}
 use Rattle.reg_registry.specs.Rows.{Rows, bare_rows}
+use Rattle.reg_closure.specs.Closure.{IsClosure}
+use Rattle.reg_closure.specs.Orders.{IsOrder}
+use Rattle.reg_permit.specs.Choices.{IsChoice, IsChoiceFault}
+use Rattle.reg_permit.specs.declared.choosing.ChoiceFault.{ChoiceFault}
+use Rattle.reg_permit.specs.declared.choosing.ChoiceFault.TheVariants as choice
+use Rattle.hdr_writer.specs.Headers.{header}
 use Rattle.doc_build.specs.declared.Place.{Place}
 use Rattle.doc_build.specs.Choices.{Choice, free_names, registry_setting}
 use Rattle.lift_check.specs.declared.Verdict.{Verdict}
@@ -16,12 +23,12 @@ use Rattle.vu_tags.specs.Statements.{needed_of}
 use Rattle.vu_tags.specs.Tagged.{IsTagFault, Names, TellsPages, tagged_of}
 use Rattle.vu_tags.specs.declared.TagFault.TheVariants as tags
 use Rattle.vkb_tool.specs.declared.words.Request.{Request}
-use Rattle.vkb_tool.specs.declared.words.Request.TheVariants.{Check, Tag}
+use Rattle.vkb_tool.specs.declared.words.Request.TheVariants.{Check, Header, Tag}
 use Rattle.vkb_tool.specs.declared.status.Status.{Status}
 use Rattle.vkb_tool.specs.declared.status.Status.TheVariants.{Done, Broken, Usage, Refused}
 use Rattle.vkb_tool.specs.declared.registry.RegistryFault.{RegistryFault}
 use Rattle.vkb_tool.specs.declared.registry.RegistryFault.TheVariants.{NamingCycle}
-use Rattle.vkb_tool.specs.Fault.{Fault, BadTag, InDocument, InRegistry, NoNumber, NotBuilt, TooManyNames}
+use Rattle.vkb_tool.specs.Fault.{Fault, BadTag, InDocument, InRegistry, NoNumber, NotBuilt, NotPermitted, TooManyNames, UnknownOption}
 use Rattle.vkb_tool.specs.Registry.{IsRegistry, IsRegistryFault}
 use Rattle.vkb_tool.specs.Words.{Spells, IsMisplaced}
 use Rattle.vkb_tool.specs.Tags.{changed, read_fault, texts_of}
@@ -61,6 +68,8 @@ IsFaultIn r lines (InRegistry file api fault) = ⊥
 IsFaultIn r lines (InDocument fault) = ⊥
 IsFaultIn r lines (NotBuilt file number) = (line : FlatLine) × IsFirstUnbuilt r.names lines line × (file ≡ line.file) × (number ≡ line.number)
 IsFaultIn r lines (TooManyNames count) = AreBuilt r.names lines × AreTooMany r.options count
+IsFaultIn r lines (UnknownOption word) = ⊥
+IsFaultIn r lines (NotPermitted option) = ⊥
 IsFaultIn r lines (BadTag file number) = ⊥
 IsFaultIn r lines (NoNumber needed left) = ⊥
 
@@ -87,8 +96,26 @@ IsCheckFault files registry root api always (NotBuilt file number) =
     (r : Rows) × (lines : List FlatLine) × IsChecked files registry root api always r lines × IsFaultIn r lines (NotBuilt file number)
 IsCheckFault files registry root api always (TooManyNames count) =
     (r : Rows) × (lines : List FlatLine) × IsChecked files registry root api always r lines × IsFaultIn r lines (TooManyNames count)
+IsCheckFault files registry root api always (UnknownOption word) = ⊥
+IsCheckFault files registry root api always (NotPermitted option) = ⊥
 IsCheckFault files registry root api always (BadTag file number) = ⊥
 IsCheckFault files registry root api always (NoNumber needed left) = ⊥
+
+-- a registry has no fault, and words name no permitted choice of its options, for this reason
+abbrev pub IsWrongChoice : Files → List ℕ → List ℕ → List (List ℕ) → Rows → ChoiceFault → Type 0
+IsWrongChoice files registry api names r fault = IsRegistry (files registry) api r × IsChoiceFault r names fault
+
+-- the first fault of a header: those of the registry go before those of the choice
+abbrev pub IsHeaderFault : Files → List ℕ → List ℕ → List (List ℕ) → Fault → Type 0
+IsHeaderFault files registry api names (InRegistry file asked fault) = (file ≡ registry) × (asked ≡ api) × IsRegistryFault (files registry) api fault
+IsHeaderFault files registry api names (InDocument fault) = ⊥
+IsHeaderFault files registry api names (NotBuilt file number) = ⊥
+IsHeaderFault files registry api names (TooManyNames count) = ⊥
+IsHeaderFault files registry api names (UnknownOption word) = (r : Rows) × IsWrongChoice files registry api names r (choice.UnknownOption word)
+IsHeaderFault files registry api names (NotPermitted option) =
+    (r : Rows) × (id : NameId) × IsWrongChoice files registry api names r (choice.NotPermitted id) × (option ≡ slice_index_or r.options id.0 [])
+IsHeaderFault files registry api names (BadTag file number) = ⊥
+IsHeaderFault files registry api names (NoNumber needed left) = ⊥
 
 -- the files of a request to tag are there, and not too long
 abbrev pub AreRead : Files → List (List ℕ) → Type 0
@@ -100,12 +127,15 @@ IsTagsFault files first names (InRegistry file api fault) = ⊥
 IsTagsFault files first names (InDocument fault) = read_fault files most_text names ≡ Some fault
 IsTagsFault files first names (NotBuilt file number) = ⊥
 IsTagsFault files first names (TooManyNames count) = ⊥
+IsTagsFault files first names (UnknownOption word) = ⊥
+IsTagsFault files first names (NotPermitted option) = ⊥
 IsTagsFault files first names (BadTag file line) = AreRead files names × ((place : ℕ) × (slice_get names place ≡ Some file) × IsTagFault first (texts_of files names) (tags.BadTag place line))
 IsTagsFault files first names (NoNumber needed left) = AreRead files names × IsTagFault first (texts_of files names) (tags.NoNumber needed left)
 
 -- the first named fault that stands in what a request asks of the files
 abbrev pub IsFirstFault : Request → Files → Fault → Type 0
 IsFirstFault (Check registry root api always) files fault = IsCheckFault files registry root api always fault
+IsFirstFault (Header registry api names) files fault = IsHeaderFault files registry api names fault
 IsFirstFault (Tag first names) files fault = IsTagsFault files first names fault
 
 -- no named fault stands in what a request asks of the files
@@ -135,6 +165,14 @@ writes_alone status output = record { status = status; output = output; puts = [
 abbrev pub puts_tags : Names → ℕ → List (List ℕ) → List (List ℕ) → Effect
 puts_tags pages first names texts = record { status = Done; output = tagged_line (needed_of texts); puts = changed names texts (tagged_of pages first texts) }
 
+-- what a header declares: the registry of a file for an API, the choice that words name, and its closure in order
+pub record IsDeclared (files : Files) (registry api : List ℕ) (names : List (List ℕ)) (r : Rows) (chosen : List Bool) (order : List NameId) : Type 0 where
+  pub read : IsRegistry (files registry) api r
+  pub choice : IsChoice r names chosen
+  pub set : List Bool
+  pub closure : IsClosure r chosen set
+  pub ordered : IsOrder r.rows set (map (λ id. id.0) order)
+
 -- What the words and the files come to. Left open are only the choice that a `no` names, with the id and the count there, and which of several circles
 -- of names through the first name on any is told.
 pub data Outcome (words : List (List ℕ)) (files : Files) : Effect → Type 0 where
@@ -147,6 +185,10 @@ pub data Outcome (words : List (List ℕ)) (files : Files) : Effect → Type 0 w
       → Spells words (Check registry root api always) → HasNoFault (Check registry root api always) files
       → IsChecked files registry root api always r lines → IsVerdict (registry_setting always r) lines verdict
       → Outcome words files (writes_alone (status_of verdict) (report_of lines r.options verdict))
+  -- the header of what a registry declares at a choice
+  declared : (registry api : List ℕ) (names : List (List ℕ)) (r : Rows) (chosen : List Bool) (order : List NameId)
+      → Spells words (Header registry api names) → HasNoFault (Header registry api names) files
+      → IsDeclared files registry api names r chosen order → Outcome words files (writes_alone Done (header r chosen order))
   -- new tags for the statements of files without a fault
   tagged : (first : ℕ) (names : List (List ℕ)) (pages : Names) → Spells words (Tag first names) → HasNoFault (Tag first names) files
       → TellsPages pages → Outcome words files (puts_tags pages first names (texts_of files names))

@@ -5,7 +5,7 @@ use Rattle.doc_cond.specs.Lines.{is_run}
 use Rattle.vkb_formula.specs.Names.{AreDifferent}
 use Rattle.vkb_tool.specs.declared.words.WordFault.{WordFault}
 use Rattle.vkb_tool.specs.declared.words.WordFault.TheVariants.{Usage, Memory}
-use Rattle.vkb_tool.specs.Words.{AreFileNames, IsAttribute, IsFileName, WritesFirst, attribute_word, is_api_byte}
+use Rattle.vkb_tool.specs.Words.{AreFileNames, IsApiName, IsAttribute, IsFileName, IsOptionWord, WritesFirst, attribute_word, is_api_byte}
 
 -- a file's name stands at an index, from 0
 abbrev pub IsNamed : List (List ℕ) → ℕ → List ℕ → Type 0
@@ -67,3 +67,29 @@ pub record IsNoFile (words : List (List ℕ)) (position : ℕ) : Type 0 where
 abbrev pub IsFileFault : List (List ℕ) → WordFault → Type 0
 IsFileFault words (Usage position) = IsNoFile words position
 IsFileFault words Memory = ⊤
+
+-- a file's name that isn't `-` stands second
+abbrev pub IsRegistryNamed : List (List ℕ) → List ℕ → Type 0
+IsRegistryNamed words name = IsNamed words 1 name × (name ≢ codes "-")
+
+-- the name of an API stands third
+abbrev pub IsApiThird : List (List ℕ) → List ℕ → Type 0
+IsApiThird words api = (slice_get words 2 ≡ Some api) × IsApiName api
+
+-- the words are the first three and then those for options
+pub record NamesOptions (words names : List (List ℕ)) : Type 0 where
+  pub names_are : All IsOptionWord names
+  pub words_are : words ≡ take 3 words ++ names
+
+-- the word at a position, from 1, is the first from the fourth on that is none for an option
+pub record IsNoOption (words : List (List ℕ)) (position : ℕ) : Type 0 where
+  pub names : List (List ℕ)
+  pub names_are : All IsOptionWord names
+  pub before : take (position - 1) words ≡ take 3 words ++ names
+  pub behind : 4 ≤ position
+  pub within : position ≤ length words
+  pub here : (name : List ℕ) → IsOptionWord name → slice_get words (position - 1) ≢ Some name
+
+abbrev pub IsOptionFault : List (List ℕ) → WordFault → Type 0
+IsOptionFault words (Usage position) = IsNoOption words position
+IsOptionFault words Memory = ⊤

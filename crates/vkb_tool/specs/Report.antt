@@ -11,7 +11,7 @@ use Rattle.reg_forms.specs.declared.forms.RowCode.{RowCode}
 use Rattle.reg_forms.specs.declared.forms.RowCode.TheVariants.{BadAttribute, ApiType, BadExpression, DuplicateName, UnknownName, ValueRange, ValueClash, AliasCircle, NameLimit as RowLimit}
 use Rattle.vkb_tool.specs.declared.registry.RegistryFault.{RegistryFault}
 use Rattle.vkb_tool.specs.declared.registry.RegistryFault.TheVariants as registry
-use Rattle.vkb_tool.specs.Fault.{Fault, BadTag, InDocument, InRegistry, NoNumber, NotBuilt, TooManyNames}
+use Rattle.vkb_tool.specs.Fault.{Fault, BadTag, InDocument, InRegistry, NoNumber, NotBuilt, NotPermitted, TooManyNames, UnknownOption}
 
 -- what a line of a report ends in
 abbrev pub line_feed : List ℕ
@@ -63,6 +63,10 @@ file_fault_line code file = codes "refused " ++ code ++ codes " " ++ file ++ lin
 abbrev pub line_fault_line : List ℕ → List ℕ → ℕ → List ℕ
 line_fault_line code file line = codes "refused " ++ code ++ codes " " ++ file ++ codes ":" ++ decimal line ++ line_feed
 
+-- the line of a fault in the words for options, by its code
+abbrev pub word_fault_line : List ℕ → List ℕ → List ℕ
+word_fault_line code word = codes "refused " ++ code ++ codes " " ++ word ++ line_feed
+
 -- the line of a fault of a document
 abbrev pub document_fault_line : document.Fault → List ℕ
 document_fault_line (document.Missing file) = file_fault_line (codes "Missing") file
@@ -106,5 +110,7 @@ fault_line (InRegistry file api fault) = registry_fault_line file api fault
 fault_line (InDocument fault) = document_fault_line fault
 fault_line (NotBuilt file line) = line_fault_line (codes "NotBuilt") file line
 fault_line (TooManyNames count) = codes "refused TooManyNames " ++ decimal count ++ line_feed
+fault_line (UnknownOption word) = word_fault_line (codes "UnknownOption") word
+fault_line (NotPermitted option) = word_fault_line (codes "NotPermitted") option
 fault_line (BadTag file line) = line_fault_line (codes "BadTag") file line
 fault_line (NoNumber needed left) = codes "refused NoNumber " ++ decimal needed ++ codes " " ++ decimal left ++ line_feed

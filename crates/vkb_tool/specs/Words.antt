@@ -1,5 +1,5 @@
 -- The words of a request, and where words that are none stop being the words of one.
-use Rattle.std.specs.Prelude.{◌≡◌, ◌≢◌, ℕ, ◌+◌, ◌-◌, ◌≤◌, List, [], ◌∷◌, ◌++◌, length, take, map, codes, Option, Some, None, Vec, ⊤, All, Bool, IsTrue, ◌||◌}
+use Rattle.std.specs.Prelude.{◌≡◌, ◌≢◌, ℕ, ◌+◌, ◌-◌, ◌≤◌, ◌==◌, not, false, List, [], ◌∷◌, ◌++◌, length, take, map, codes, Option, Some, None, Vec, ⊤, All, Bool, IsTrue, ◌||◌}
 use Rattle.std.specs.declared.alloc.Global.{Global}
 use Rattle.std.specs.Str.{IsUtf8}
 use Rattle.vkb_bytes.specs.Bytes.{is_digit, is_letter}
@@ -7,7 +7,7 @@ use Rattle.vkb_bytes.specs.Numbers.{numeral_of}
 use Rattle.vkb_formula.specs.Names.{AreDifferent}
 use Rattle.doc_cond.specs.Lines.{is_name_byte, is_run}
 use Rattle.vkb_tool.specs.declared.words.Request.{Request}
-use Rattle.vkb_tool.specs.declared.words.Request.TheVariants.{Check, Tag}
+use Rattle.vkb_tool.specs.declared.words.Request.TheVariants.{Check, Header, Tag}
 use Rattle.vkb_tool.specs.declared.words.WordFault.{WordFault}
 use Rattle.vkb_tool.specs.declared.words.WordFault.TheVariants.{Usage, Memory}
 
@@ -55,10 +55,20 @@ pub record AreFileNames (names : List (List ℕ)) : Type 0 where
   pub named : All IsFileName names
   pub different : AreDifferent names
 
+-- the word isn't empty and doesn't begin with `+`
+abbrev pub names_option : List ℕ → Bool
+names_option [] = false
+names_option (byte ∷ rest) = not (byte == 43)
+
+-- the word by which an option is chosen
+abbrev pub IsOptionWord : List ℕ → Type 0
+IsOptionWord word = IsTrue (names_option word)
+
 -- the words that ask for a request
 abbrev pub Spells : List (List ℕ) → Request → Type 0
 Spells words (Check registry root api always) = IsApiOf registry api × IsFileName root × All IsAttribute always
     × (words ≡ codes "check" ∷ registry_word registry ∷ root ∷ api ∷ map attribute_word always)
+Spells words (Header registry api names) = IsApiOf (Some registry) api × All IsOptionWord names × (words ≡ codes "header" ∷ registry ∷ api ∷ names)
 Spells words (Tag first files) = (word : List ℕ) × WritesFirst word first × AreFileNames files × (words ≡ codes "tag" ∷ word ∷ files)
 
 -- some request begins with these words

@@ -3,12 +3,15 @@ ghost use Rattle.doc_tree.specs.Answer.{told_of};
 ghost use Rattle.doc_tree.specs.Fault.{Fault as DocumentFault};
 ghost use Rattle.vkb_tool.specs.Answer.{AnswersWords, AreHeld, CountsReading, Delivers, IsAskedFor, PutsAll, effect_of, put_of};
 ghost use Rattle.vkb_tool.specs.Check.{IsTroubleOf};
+ghost use Rattle.vkb_tool.specs.Fault.{InRegistry};
 ghost use Rattle.vkb_tool.specs.Outcome.{Outcome, writes_alone};
-ghost use Rattle.vkb_tool.specs.Report.{document_fault_line, usage_line};
+ghost use Rattle.vkb_tool.specs.Report.{document_fault_line, fault_line, usage_line};
 ghost use Rattle.vkb_tool.specs.Words.{items_of};
 
 use crate::check::check;
-use crate::report::{document_fault_text, usage_text};
+use crate::header::header;
+use crate::registry::RegistryFault;
+use crate::report::{document_fault_text, registry_fault_text, usage_text};
 use crate::tags::tag;
 use crate::words::{Request, WordFault, read_words};
 use crate::{Memory, Status};
@@ -93,6 +96,19 @@ pub fn answer_words<S: Shelf>(
             api.as_slice(),
             always.as_slice(),
         ),
+        Ok(
+            Request::Header {
+                registry,
+                api,
+                names,
+            },
+        ) => header(
+            alloc,
+            shelf,
+            registry.as_str(),
+            api.as_slice(),
+            names.as_slice(),
+        ),
         Ok(Request::Tag { first, files }) => tag(alloc, shelf, first, files.as_slice()),
         Err(WordFault::Usage { position }) => Ok(misplaced(alloc, position)?),
         Err(WordFault::Memory) => Err(Trouble::NoMemory),
@@ -115,6 +131,20 @@ pub fn refuse(alloc: Global, fault: &DocFault) -> Result<Answer, Trouble>
     ensures untold { IfErr result (IsTroubleOf fault.now) }
 {
     let output = document_fault_text(alloc, fault)?;
+    Ok(written(alloc, Status::Refused, output))
+}
+
+/// The answer to a request whose file of a registry has a fault.
+pub fn refuse_registry(
+    alloc: Global,
+    file: &str,
+    api: &[u8],
+    fault: &RegistryFault,
+) -> Result<Answer, Memory>
+    ensures { IfOk result (λ answer. effect_of answer
+        ≡ writes_alone Status.Refused (fault_line (InRegistry file.now api.now fault.now))) }
+{
+    let output = registry_fault_text(alloc, file, api, fault)?;
     Ok(written(alloc, Status::Refused, output))
 }
 

@@ -4,13 +4,11 @@ ghost use Rattle.doc_tree.specs.Flat.{is_among};
 ghost use Rattle.doc_tree.specs.Loaded.{IsLoaded, flat_of};
 ghost use Rattle.vkb_tool.specs.Answer.{CountsReading, IsRequestStatus, effect_of};
 ghost use Rattle.vkb_tool.specs.Check.{Carries, IsOwn, TellsOf, TellsOver};
-ghost use Rattle.vkb_tool.specs.Fault.{InRegistry};
 ghost use Rattle.vkb_tool.specs.Outcome.{is_unbuilt, status_of, writes_alone};
-ghost use Rattle.vkb_tool.specs.Report.{fault_line};
 
-use crate::answer::{Answer, Trouble, refuse, written};
-use crate::registry::{RegistryFault, Unread, read_registry};
-use crate::report::{not_built_text, registry_fault_text, report, too_many_text};
+use crate::answer::{Answer, Trouble, refuse, refuse_registry, written};
+use crate::registry::{Unread, read_registry};
+use crate::report::{not_built_text, report, too_many_text};
 use crate::{Memory, Request, Status};
 use doc_build::marks_in_lines;
 use doc_cond::LineKind;
@@ -81,20 +79,6 @@ fn check_over<S: Shelf>(
         Err(Unread::Faulty(fault)) => Ok(refuse_registry(alloc, file, api, &fault)?),
         Err(Unread::Troubled(trouble)) => Err(trouble),
     }
-}
-
-/// The answer to a request whose file of a registry has a fault.
-fn refuse_registry(
-    alloc: Global,
-    file: &str,
-    api: &[u8],
-    fault: &RegistryFault,
-) -> Result<Answer, Memory>
-    ensures { IfOk result (λ answer. effect_of answer
-        ≡ writes_alone Status.Refused (fault_line (InRegistry file.now api.now fault.now))) }
-{
-    let output = registry_fault_text(alloc, file, api, fault)?;
-    Ok(written(alloc, Status::Refused, output))
 }
 
 /// Answers such a check over the registry that was read, or over none.

@@ -3,6 +3,7 @@
 ghost use Rattle.std.specs.Prelude.{◌≡◌, ◌≢◌, ◌⊎◌, ℕ, List};
 ghost use Rattle.vkb_outside.specs.Shelf.{Files};
 ghost use Rattle.vkb_tool.specs.Fault.{Fault};
+ghost use Rattle.vkb_tool.specs.Laws.{HeadersAreWhole};
 ghost use Rattle.vkb_tool.specs.Outcome.{Effect, IsFirstFault, NameOneCircle, NameOnePlace, Outcome, determined};
 ghost use Rattle.vkb_tool.specs.Words.{Spells, IsMisplaced};
 ghost use Rattle.vkb_tool.specs.declared.status.Status.TheVariants.{Broken};
@@ -10,7 +11,11 @@ ghost use Rattle.vkb_tool.specs.declared.status.Status.TheVariants.{Broken};
 use crate::Request;
 use doc_tree::{files_have_sources, one_walk};
 use lift_check::one_verdict;
-use reg_permit::choices_are_permitted_or_not;
+use reg_closure::{
+    closures_are_closed, closures_are_there, one_closure, one_order, orders_are_there,
+    orders_have_all,
+};
+use reg_permit::{choices_are_permitted_or_break_one_first, choices_are_permitted_or_not};
 use reg_reader::one_answer;
 use reg_rows::{answers_are_one, each_registry_is_answered, rows_are_within};
 use vu_tags::pages_are_one;
@@ -47,6 +52,8 @@ pub fn one_outcome()
     one_answer();
     answers_are_one();
     one_verdict();
+    one_closure();
+    one_order();
     pages_are_one();
 }
 
@@ -62,4 +69,16 @@ pub fn each_has_an_outcome()
     each_registry_is_answered();
     rows_are_within();
     choices_are_permitted_or_not();
+    choices_are_permitted_or_break_one_first();
+    closures_are_there();
+    orders_are_there();
+}
+
+/// A header that is written declares each name of the closure, once, and no other, in the order that is told, in which each stands behind all that it
+/// names. Only a command that is named by what is none may stand behind that: commands stand behind all others.
+pub fn headers_are_whole()
+    ensures { HeadersAreWhole }
+{
+    closures_are_closed();
+    orders_have_all();
 }

@@ -4,6 +4,7 @@
 
 mod answer;
 mod check;
+mod header;
 mod laws;
 mod program;
 mod registry;
@@ -12,7 +13,7 @@ mod status;
 mod tags;
 mod words;
 
-pub use laws::{each_has_an_outcome, one_fault, one_outcome, one_reading};
+pub use laws::{each_has_an_outcome, headers_are_whole, one_fault, one_outcome, one_reading};
 pub use program::run;
 pub use status::Status;
 pub use vkb_bytes::Memory;

@@ -6,8 +6,8 @@ ghost use Rattle.doc_tree.specs.Flat.{FlatLine};
 ghost use Rattle.doc_tree.specs.Loaded.{flat_of};
 ghost use Rattle.doc_build.specs.Choices.{chosen_of};
 ghost use Rattle.vkb_tool.specs.Check.{AreFilesThere, IsTroubleOf, NamesWithin};
-ghost use Rattle.vkb_tool.specs.Fault.{BadTag, NoNumber, NotBuilt, TooManyNames};
-ghost use Rattle.vkb_tool.specs.Report.{broken_lines, document_fault_line, fault_line, file_fault_line, line_fault_line, place_text, report_of, spot_in, tagged_line, usage_line, with_line};
+ghost use Rattle.vkb_tool.specs.Fault.{BadTag, NoNumber, NotBuilt, NotPermitted, TooManyNames, UnknownOption};
+ghost use Rattle.vkb_tool.specs.Report.{broken_lines, document_fault_line, fault_line, file_fault_line, line_fault_line, place_text, report_of, spot_in, tagged_line, usage_line, with_line, word_fault_line};
 
 mod registry;
 
@@ -95,6 +95,30 @@ pub fn no_number_text(alloc: Global, needed: u32, left: u32) -> Result<Vec<u8>, 
     ensures { IfOk result (λ text. text.items ≡ fault_line (NoNumber needed left)) }
 {
     Ok(format!(in alloc; "refused NoNumber {needed} {left}\n")?.into_bytes())
+}
+
+/// The line for a word that is no option.
+pub fn unknown_option_text(alloc: Global, word: &[u8]) -> Result<Vec<u8>, Memory>
+    ensures { IfOk result (λ text. text.items ≡ fault_line (UnknownOption word.now)) }
+{
+    word_fault_text(alloc, b"UnknownOption", word)
+}
+
+/// The line for a choice that isn't permitted, by the option whose rule doesn't hold.
+pub fn not_permitted_text(alloc: Global, option: &[u8]) -> Result<Vec<u8>, Memory>
+    ensures { IfOk result (λ text. text.items ≡ fault_line (NotPermitted option.now)) }
+{
+    word_fault_text(alloc, b"NotPermitted", option)
+}
+
+/// The line for a fault in the words for options, by its code.
+fn word_fault_text(alloc: Global, code: &[u8], word: &[u8]) -> Result<Vec<u8>, Memory>
+    ensures { IfOk result (λ text. text.items ≡ word_fault_line code.now word.now) }
+{
+    let mut text = refused(alloc, code)?;
+    text.extend_from_slice(word)?;
+    text.push(b'\n')?;
+    Ok(text)
 }
 
 /// The line for a fault of a file, by its code.

@@ -1,4 +1,5 @@
 mod chapters;
+mod headers;
 mod registries;
 mod tags;
 mod words;

@@ -4,9 +4,11 @@ ghost use Rattle.vkb_tool.specs.Reading.{IsNamed};
 ghost use Rattle.vkb_tool.specs.Words.{IsWordFault, Spells, items_of};
 
 mod check;
+mod header;
 mod tag;
 
 use check::read_check;
+use header::read_header;
 use std::alloc::{AllocError, AllocFailed, Global};
 use std::str;
 use tag::read_tag;
@@ -23,6 +25,12 @@ pub enum Request {
         root: Text,
         api: Bytes,
         always: Listed<Bytes>,
+    },
+    /// The header of what a registry declares for an API at the choice of these options, of which one may stand twice.
+    Header {
+        registry: Text,
+        api: Bytes,
+        names: Listed<Bytes>,
     },
     /// New tags, numbered from `first` on, for the statements of these files that have none.
     Tag {
@@ -78,6 +86,7 @@ impl From<Memory> for WordFault {
 ///
 /// - `check REG ROOT API`, where REG and ROOT are files' names and API is one or more letters and digits, or REG and API are both `-`; and then any
 ///   number of `+ATTR`, where ATTR is one or more letters, digits, `_` and `-`;
+/// - `header REG API`, where REG is a file's name that isn't `-`, and then any number of NAME, none of which is empty or begins with `+`;
 /// - `tag FIRST` and one or more FILE, where FIRST is one to five digits, from 1 to 99999, and each FILE is another file's name.
 pub fn read_words(alloc: Global, words: &[Vec<u8>]) -> Result<Request, WordFault>
     requires { length words.now < 2 ^ 32 }
@@ -86,6 +95,9 @@ pub fn read_words(alloc: Global, words: &[Vec<u8>]) -> Result<Request, WordFault
 {
     if has_word(words, 0, b"check") {
         return read_check(alloc, words);
+    }
+    if has_word(words, 0, b"header") {
+        return read_header(alloc, words);
     }
     if has_word(words, 0, b"tag") {
         return read_tag(alloc, words);

@@ -159,6 +159,27 @@ pub(super) const OWN_1: &[u8] = b"\
     } VkN;\n\
     #endif\n";
 
+/// An extension removes a name that another has as its member's type.
+pub(super) const NAMED: &[u8] = b"\
+    <registry><types><type category='struct' name='VkFoo'><member><type>VkBar</type> <name>m</name></member></type>\
+    <type category='struct' name='VkBar'/></types>\
+    <feature api='vulkan' name='VK_V' number='1.0'><require><type name='VkFoo'/><type name='VkBar'/></require>\
+    </feature><extensions><extension name='VK_R' number='1' supported='vulkan'><remove><type name='VkBar'/></remove>\
+    </extension></extensions></registry>";
+
+/// Its header at choice 3.
+pub(super) const NAMED_3: &[u8] = b"\
+    #ifndef VULKAN_CORE_H_\n\
+    #define VULKAN_CORE_H_ 1\n\
+    #define VK_V 1\n\
+    #define VK_R 1\n\
+    typedef struct VkBar {\n\
+    } VkBar;\n\
+    typedef struct VkFoo {\n\
+    \x20\x20\x20\x20VkBar m;\n\
+    } VkFoo;\n\
+    #endif\n";
+
 /// An extension removes a name.
 pub(super) const REMOVED: &[u8] = b"\
     <registry><types><type category='struct' name='VkFoo'/><type category='struct' name='VkBar'/></types>\
@@ -232,13 +253,13 @@ pub(super) const MASKS_1: &[u8] = b"\
     static const VkW W_OLD = 0x8000000000000000ULL;\n\
     #endif\n";
 
-/// Values that extensions require and remove.
+/// Values that extensions require and remove. One that is removed is the end of an alias that isn't.
 pub(super) const VALUES: &[u8] = b"\
     <registry><types><type category='enum' name='VkE'/></types><enums name='VkE' type='enum'>\
     <enum name='E_LOW' value='-3'/><enum name='E_ONE' value='1'/></enums>\
     <feature api='vulkan' name='VK_V' number='1.0'><require><type name='VkE'/></require></feature><extensions>\
     <extension name='VK_A' number='1' supported='vulkan'><require><enum name='E_A' extends='VkE' offset='2'/>\
-    <enum name='E_B' extends='VkE' alias='E_A2'/></require></extension>\
+    <enum name='E_B' extends='VkE' alias='E_A2'/><enum name='E_C' extends='VkE' alias='E_ONE'/></require></extension>\
     <extension name='VK_B' number='2' supported='vulkan'><require><enum name='E_A2' extends='VkE' offset='0' dir='-'/>\
     </require><remove><enum name='E_ONE'/><enum name='E_A'/></remove></extension></extensions></registry>";
 
@@ -266,6 +287,7 @@ pub(super) const VALUES_3: &[u8] = b"\
     \x20\x20\x20\x20E_A = 1000000002,\n\
     \x20\x20\x20\x20E_A2 = -1000001000,\n\
     \x20\x20\x20\x20E_B = E_A2,\n\
+    \x20\x20\x20\x20E_C = E_ONE,\n\
     \x20\x20\x20\x20VK_E_MAX_ENUM = 0x7FFFFFFF\n\
     } VkE;\n\
     #endif\n";
@@ -292,8 +314,10 @@ pub(super) const VALUES_7: &[u8] = b"\
     #define VK_B 1\n\
     typedef enum VkE {\n\
     \x20\x20\x20\x20E_LOW = -3,\n\
+    \x20\x20\x20\x20E_ONE = 1,\n\
     \x20\x20\x20\x20E_A2 = -1000001000,\n\
     \x20\x20\x20\x20E_B = E_A2,\n\
+    \x20\x20\x20\x20E_C = E_ONE,\n\
     \x20\x20\x20\x20VK_E_MAX_ENUM = 0x7FFFFFFF\n\
     } VkE;\n\
     #endif\n";

@@ -3,8 +3,9 @@ ghost use Rattle.std.specs.Prelude.{◌≡◌, ◌<◌, length, true};
 ghost use Rattle.hdr_writer.specs.Frames.{IsEnumType};
 
 use super::header_texts::{
-    KINDS, KINDS_1, MASKS, MASKS_1, OWN, OWN_1, REMOVED, REMOVED_3, TAGS, TAGS_1, VALUES, VALUES_1,
-    VALUES_3, VALUES_5, VALUES_7, WINDOWS, WINDOWS_1, WINDOWS_7, WITH_BIT, WITH_BIT_8, WITH_BIT_15,
+    KINDS, KINDS_1, MASKS, MASKS_1, NAMED, NAMED_3, OWN, OWN_1, REMOVED, REMOVED_3, TAGS, TAGS_1,
+    VALUES, VALUES_1, VALUES_3, VALUES_5, VALUES_7, WINDOWS, WINDOWS_1, WINDOWS_7, WITH_BIT,
+    WITH_BIT_8, WITH_BIT_15,
 };
 use super::*;
 use hdr_writer::{declare, frame, value_line};
@@ -25,12 +26,13 @@ fn header_at(alloc: Global, text: &[u8], number: u32) -> Result<Vec<u8>, Fail> {
 #[test]
 fn headers_are_as_the_table_says(rt: HostRuntime) -> Result<(), Fail> {
     let alloc = rt.alloc();
-    let table: [(&[u8], u32, &[u8]); 13] = [
+    let table: [(&[u8], u32, &[u8]); 14] = [
         (WINDOWS, 7, WINDOWS_7),
         (WINDOWS, 1, WINDOWS_1),
         (WITH_BIT, 15, WITH_BIT_15),
         (WITH_BIT, 8, WITH_BIT_8),
         (OWN, 1, OWN_1),
+        (NAMED, 3, NAMED_3),
         (REMOVED, 3, REMOVED_3),
         (TAGS, 1, TAGS_1),
         (MASKS, 1, MASKS_1),
@@ -124,6 +126,7 @@ fn enum_types_are_made_of_their_parts(rt: HostRuntime) -> Result<(), Fail> {
     \x20\x20\x20\x20E_ONE = 1,\n\
     \x20\x20\x20\x20E_A = 1000000002,\n\
     \x20\x20\x20\x20E_B = E_A2,\n\
+    \x20\x20\x20\x20E_C = E_ONE,\n\
     \x20\x20\x20\x20E_A2 = -1000001000,\n\
     \x20\x20\x20\x20VK_E_MAX_ENUM = 0x7FFFFFFF\n\
     } VkE;\n",
@@ -159,6 +162,7 @@ fn a_name_is_declared_alone(rt: HostRuntime) -> Result<(), Fail> {
     \x20\x20\x20\x20E_A = 1000000002,\n\
     \x20\x20\x20\x20E_A2 = -1000001000,\n\
     \x20\x20\x20\x20E_B = E_A2,\n\
+    \x20\x20\x20\x20E_C = E_ONE,\n\
     \x20\x20\x20\x20VK_E_MAX_ENUM = 0x7FFFFFFF\n\
     } VkE;\n",
         ),

@@ -5,7 +5,7 @@ use std::test::Fail;
 use vkb_outside::{MemoryShelf, SureShelf, names_differ};
 
 /// A registry of two extensions, the second of which depends on this.
-const TWO: &str =
+pub const TWO: &str =
     "<registry><feature api=\"vulkan\" name=\"VK_V\" number=\"1.0\"/><extensions><extension name=\"VK_A\" number=\"1\" supported=\"vulkan\"/><extension name=\"VK_B\" number=\"2\" supported=\"vulkan\" depends=\"VK_A\"/></extensions></registry>";
 
 /// The same without that.
@@ -17,7 +17,7 @@ const FOO: &str =
     "<registry><types><type category=\"struct\" name=\"VkFoo\"/></types><feature api=\"vulkan\" name=\"VK_V\" number=\"1.0\"/><extensions><extension name=\"VK_B\" number=\"1\" supported=\"vulkan\"><require><type name=\"VkFoo\"/></require></extension></extensions></registry>";
 
 /// A registry in which an extension depends on a member of a struct that another requires.
-const BIT: &str =
+pub const BIT: &str =
     "<registry><types><type name=\"VkBool32\"/><type category=\"struct\" name=\"VkF\"><member><type>VkBool32</type> <name>m</name></member></type></types><feature api=\"vulkan\" name=\"VK_V\" number=\"1.0\"/><extensions><extension name=\"VK_A\" number=\"1\" supported=\"vulkan\"><require><type name=\"VkF\"/></require></extension><extension name=\"VK_B\" number=\"2\" supported=\"vulkan\" depends=\"VkF::m\"/></extensions></registry>";
 
 /// A chapter whose link wants `VK_A` with `VK_B`.

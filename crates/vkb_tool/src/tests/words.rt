@@ -19,7 +19,14 @@ fn misplaced_words_are_told(rt: HostRuntime) -> Result<(), Fail> {
         ("check - a.adoc - +X +a.b +Y", "usage 6\n"),
         ("check", "usage 2\n"),
         ("check a.adoc", "usage 3\n"),
-        ("header - - X", "usage 1\n"),
+        ("header", "usage 2\n"),
+        ("header - - X", "usage 2\n"),
+        ("header r.xml", "usage 3\n"),
+        ("header r.xml - X", "usage 3\n"),
+        ("header r.xml vul_kan X", "usage 3\n"),
+        ("header r.xml vulkan +X", "usage 4\n"),
+        ("header r.xml vulkan X X + Y", "usage 6\n"),
+        ("headers r.xml vulkan", "usage 1\n"),
     ] {
         says(&rt, alloc, "", words, written, Status::Usage)?;
     }
@@ -60,12 +67,7 @@ fn checks_over(rt: &impl Abort, request: Request) {
             assert_eq!(rt; api.as_slice(), b"vulkan2".as_slice());
             assert!(rt; always.as_slice().is_empty());
         }
-        Request::Tag { first, files } => {
-            panic!(rt;
-                "a request to tag {} files from {first} on",
-                files.as_slice().len()
-            );
-        }
+        _ => panic!(rt; "another request"),
     }
 }
 
@@ -93,11 +95,6 @@ fn checks_two(rt: &impl Abort, request: Request) {
             assert_eq!(rt; always.as_slice()[0].as_slice(), b"A-1".as_slice());
             assert_eq!(rt; always.as_slice()[1].as_slice(), b"_".as_slice());
         }
-        Request::Tag { first, files } => {
-            panic!(rt;
-                "a request to tag {} files from {first} on",
-                files.as_slice().len()
-            );
-        }
+        _ => panic!(rt; "another request"),
     }
 }

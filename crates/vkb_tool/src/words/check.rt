@@ -73,7 +73,7 @@ fn goes_with(registry: &str, api: &[u8]) -> bool
 }
 
 /// Whether a word is the name of an API: one or more letters and digits.
-fn is_api_name(api: &[u8]) -> bool
+pub(super) fn is_api_name(api: &[u8]) -> bool
     ensures { result ≡ is_run is_api_byte api.now }
 {
     !api.is_empty() && all_api_bytes(api)
