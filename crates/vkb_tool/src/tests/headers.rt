@@ -189,3 +189,45 @@ fn a_header_reads_once(rt: HostRuntime) -> Result<(), Fail> {
     }
     Ok(())
 }
+
+/// The struct of this number, with a pointer to the next, as a registry has it.
+fn linked_row(alloc: Global, number: u32, next: u32) -> Result<String, AllocError> {
+    format!(in alloc;
+        "<type category=\"struct\" name=\"VkS{number}\"><member><type>VkS{next}</type>* <name>next</name></member></type>"
+    )
+}
+
+/// The same as a header has it.
+fn linked_struct(alloc: Global, number: u32, next: u32) -> Result<String, AllocError> {
+    format!(in alloc; "typedef struct VkS{number} {{\n    VkS{next}* next;\n}} VkS{number};\n")
+}
+
+#[test]
+fn a_long_chain_is_declared_from_its_end(rt: HostRuntime) -> Result<(), Fail> {
+    let alloc = rt.alloc();
+    let mut registry = String::from_str(alloc, "<registry><types>")?;
+    for number in 0..9_999u32 {
+        registry.push_str(linked_row(alloc, number, number + 1)?.as_str())?;
+    }
+    registry.push_str(
+        "<type category=\"struct\" name=\"VkS9999\"/></types><feature api=\"vulkan\" name=\"VK_V\" number=\"1.0\"><require><type name=\"VkS0\"/></require></feature></registry>",
+    )?;
+    let mut written = String::from_str(
+        alloc,
+        "#ifndef VULKAN_CORE_H_\n#define VULKAN_CORE_H_ 1\n#define VK_V 1\ntypedef struct VkS9999 {\n} VkS9999;\n",
+    )?;
+    for back in 0..9_999u32 {
+        let number = 9_998 - back;
+        written.push_str(linked_struct(alloc, number, number + 1)?.as_str())?;
+    }
+    written.push_str("#endif\n")?;
+    let status = declares(
+        &rt,
+        alloc,
+        registry.as_str(),
+        "header r.xml vulkan VK_V",
+        written.as_str(),
+    )?;
+    assert_eq!(rt; status, Status::Done);
+    Ok(())
+}
