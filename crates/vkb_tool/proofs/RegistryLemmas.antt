@@ -4,7 +4,7 @@ use Rattle.std.proofs.lemmas.Bool.{cases_lt}
 use Rattle.std.proofs.lemmas.Option.{none-some, same_Some}
 use Rattle.vkb_bytes.specs.First.{first_of}
 use Rattle.reg_reader.specs.Laws.{Answer, IsAnswer as IsText, OneAnswer}
-use Rattle.reg_reader.specs.Markup.{IsElement, IsStop, IsTooDeep, Spells, empty, filled, run_of}
+use Rattle.reg_reader.specs.Markup.{IsElement, Spells, empty, filled, run_of}
 use Rattle.reg_reader.specs.Shown.{IsElementOf, attributes_of, bytes_of, content_of, shown_node}
 use Rattle.reg_reader.specs.Views.{Content, Element, elements_in}
 use Rattle.reg_reader.specs.declared.markup.Part.{Part}
@@ -15,7 +15,7 @@ use Rattle.reg_reader.specs.declared.markup.Node.TheVariants as node
 use Rattle.reg_registry.specs.Rows.{Rows}
 use Rattle.reg_forms.specs.Forms.{forms_of}
 use Rattle.reg_rows.specs.Answer.{IsAnswer}
-use Rattle.reg_rows.specs.Laws.{AnswersAreOne, EachIsAnswered, IsSameAnswer, IsSameFault, IsTold}
+use Rattle.reg_rows.specs.Laws.{AnswersAreOne, EachIsAnswered, IsSameAnswer, IsTold}
 use Rattle.reg_rows.specs.declared.fault.RowFault.{RowFault}
 use Rattle.reg_rows.specs.declared.fault.RowFault.TheVariants as row
 use Rattle.vkb_tool.specs.declared.registry.RegistryFault.{RegistryFault}

@@ -1,5 +1,5 @@
 -- The header that is written has each name of the closure once, behind all that it names.
-use Rattle.std.proofs.Common.{inl, inr, ⊎_elim, ◌≡◌, ◌⊎◌, ℕ, zero, suc, ◌<◌, Bool, true, false, not, cond, List, [], ◌∷◌, ◌++◌, codes, filter, length, map, Some, slice_get, Contains, option_map, refl, sym, ap, ◌∙◌, subst, arith, append_assoc}
+use Rattle.std.proofs.Common.{inl, inr, ⊎_elim, ◌≡◌, ℕ, zero, suc, ◌<◌, Bool, true, false, not, cond, List, [], ◌∷◌, ◌++◌, codes, filter, map, Some, slice_get, Contains, option_map, sym, ap, ◌∙◌, subst, arith, append_assoc}
 use Rattle.std.specs.List.{flat_map}
 use Rattle.std.proofs.lemmas.Bool.{cases_Bool, false≢true}
 use Rattle.std.proofs.lemmas.Grind.{flat_map-append}
@@ -9,19 +9,16 @@ use Rattle.std.proofs.lemmas.Option.{none-some, same_Some, slice_get-map}
 use Rattle.vkb_formula.specs.declared.name_table.NameId.{NameId}
 use Rattle.reg_registry.specs.Naming.{Names, NoneTwice}
 use Rattle.reg_registry.specs.Rows.{Rows, id_at}
-use Rattle.reg_closure.specs.Closure.{IsInClosure}
 use Rattle.reg_closure.specs.Existence.{OrdersHaveAll}
 use Rattle.reg_closure.specs.Laws.{ClosuresAreClosed}
-use Rattle.reg_closure.specs.Orders.{HasEachOnce, StandBehind}
+use Rattle.reg_closure.specs.Orders.{StandBehind}
 use Rattle.reg_closure.proofs.NumberLemmas.{none-twice}
 use Rattle.reg_closure.proofs.PlacedLemmas.{Contains-cases, Contains-first, Contains-map, Contains-rest, place-of}
 use Rattle.lift_check.proofs.SitesLemmas.{Contains-filter}
 use Rattle.hdr_writer.specs.Declarations.{declaration}
 use Rattle.hdr_writer.specs.Headers.{defines, header, is_command, prologue}
 use Rattle.hdr_writer.specs.Lines.{line}
-use Rattle.vkb_outside.specs.Shelf.{Files}
-use Rattle.vkb_tool.specs.Laws.{HeadersAreWhole, IsWholeHeader, StandsBefore, written_order}
-use Rattle.vkb_tool.specs.Outcome.{IsDeclared}
+use Rattle.vkb_tool.specs.Laws.{HeadersAreWhole, StandsBefore, written_order}
 use Rattle.vkb_tool.proofs.HeaderLemmas.{rows_counted, rows_in_no_circle}
 
 -- the places of names

@@ -1,5 +1,5 @@
 -- What an answer to a request for a header says: for private contracts alone.
-use Rattle.std.specs.Prelude.{◌≡◌, ◌⊎◌, ℕ, Bool, List, [], map, slice_index_or}
+use Rattle.std.specs.Prelude.{◌≡◌, ℕ, Bool, List, [], map, slice_index_or}
 use Rattle.vkb_formula.specs.declared.name_table.NameId.{NameId}
 use Rattle.reg_registry.specs.Rows.{Rows}
 use Rattle.reg_closure.specs.Closure.{IsClosure}

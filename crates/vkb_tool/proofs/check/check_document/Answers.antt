@@ -18,9 +18,8 @@ use Rattle.vkb_tool.specs.declared.words.Request.TheVariants.{Check}
 use Rattle.vkb_tool.specs.Answer.{CountsReading, effect_of}
 use Rattle.reg_registry.specs.Rows.{Rows}
 use Rattle.vkb_tool.specs.Check.{Carries, IsOwn, IsTroubleOf}
-use Rattle.vkb_tool.specs.Outcome.{Outcome, most_text, writes_alone}
+use Rattle.vkb_tool.specs.Outcome.{most_text, writes_alone}
 use Rattle.vkb_tool.specs.Report.{document_fault_line}
-use Rattle.vkb_tool.specs.Words.{Spells}
 use Rattle.vkb_tool.proofs.OutcomeLemmas.{HaveSources, IsWalked, refused_outcome, told_outcome}
 use Rattle.vkb_tool.proofs.check.check_document.Goals as goal
 

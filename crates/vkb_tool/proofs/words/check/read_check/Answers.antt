@@ -1,4 +1,4 @@
-use Rattle.std.proofs.Common.{rules, List, ℕ, [], ◌∷◌, ◌++◌, ◌≡◌, ◌≤◌, Option, Some, length, take, map, slice_get, sym, ap, ◌∙◌, arith, refl}
+use Rattle.std.proofs.Common.{rules, List, ℕ, [], ◌++◌, ◌≡◌, Option, take, map, ap, ◌∙◌, arith}
 use Rattle.std.proofs.lemmas.List.{length-map}
 use Rattle.std.proofs.lemmas.Option.{slice_get_within}
 use Rattle.std.proofs.lemmas.Result.{err_from_is_err_and}
