@@ -12,7 +12,7 @@ use Rattle.reg_registry.specs.Laws.{AreWithin}
 use Rattle.reg_registry.specs.Naming.{Names}
 use Rattle.reg_registry.specs.Rows.{Rows, id_at}
 use Rattle.reg_registry.specs.declared.registry.Row.{Row}
-use Rattle.reg_closure.specs.Closure.{IsClosure, IsIn, IsInClosure, named, root}
+use Rattle.reg_closure.specs.Closure.{IsIn, IsInClosure, named, root}
 use Rattle.reg_closure.specs.Existence.{ClosuresAreThere, OrdersAreThere}
 use Rattle.reg_closure.specs.Laws.{InClosureOrNot}
 use Rattle.reg_closure.specs.Orders.{IsOrder, MayStand}

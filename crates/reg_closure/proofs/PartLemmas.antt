@@ -1,5 +1,5 @@
 -- The order of a closed part is the order of the whole, without the names that aren't in the part.
-use Rattle.std.proofs.Common.{◌≡◌, ℕ, zero, suc, ◌⊎◌, ⊎_elim, Bool, true, false, List, [], ◌∷◌, take, filter, get_or, slice_get, Some, Contains, refl, sym, ap, subst, ◌∙◌, cond, arith}
+use Rattle.std.proofs.Common.{◌≡◌, ℕ, zero, suc, ⊎_elim, Bool, true, false, List, [], ◌∷◌, take, filter, get_or, slice_get, Some, Contains, refl, sym, ap, subst, ◌∙◌, cond, arith}
 use Rattle.std.proofs.lemmas.Bool.{true≢false, cases_Bool}
 use Rattle.std.proofs.lemmas.Option.{none-some, same_Some, get_or_from_slice_get}
 use Rattle.vkb_bytes.specs.First.{IsFirst}

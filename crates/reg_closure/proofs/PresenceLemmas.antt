@@ -1,5 +1,5 @@
 -- A name's node is true exactly where the closure has the name.
-use Rattle.std.proofs.Common.{◌≡◌, ◌∙◌, refl, sym, ap, subst, ℕ, ◌+◌, ◌*◌, ◌<◌, ◌⊎◌, ⊎_elim, Bool, true, false, ◌||◌, List, [], ◌∷◌, length, map, get_or, slice_get, Some, All, Contains, arith}
+use Rattle.std.proofs.Common.{◌≡◌, ◌∙◌, refl, sym, ap, subst, ℕ, ◌+◌, ◌*◌, ◌<◌, ⊎_elim, Bool, true, false, ◌||◌, List, [], ◌∷◌, length, map, get_or, slice_get, Some, All, Contains, arith}
 use Rattle.std.specs.Prelude.{sum_by}
 use Rattle.std.specs.List.{list_any}
 use Rattle.std.proofs.lemmas.Bool.{false≢true, or_cases, or_left, or_right}
@@ -14,7 +14,6 @@ use Rattle.vkb_formula.specs.Reaches.{ValuesAreByParts}
 use Rattle.vkb_formula.specs.declared.name_table.NameId.{NameId}
 use Rattle.vkb_formula.specs.declared.pool.NodeId.{NodeId}
 use Rattle.vkb_formula.specs.declared.pool.PoolNode.{PoolNode}
-use Rattle.vkb_formula.specs.declared.pool.PoolNode.TheVariants as node
 use Rattle.reg_registry.specs.Naming.{AreSound, Names}
 use Rattle.reg_registry.specs.Rows.{Rows}
 use Rattle.reg_registry.specs.declared.registry.Block.{Block}

@@ -4,7 +4,7 @@ use Rattle.std.proofs.lemmas.Bool.{cases_order}
 use Rattle.std.proofs.lemmas.Option.{slice_get_within}
 use Rattle.vkb_formula.specs.declared.name_table.NameId.{NameId}
 use Rattle.reg_registry.specs.declared.registry.Row.{Row}
-use Rattle.reg_registry.specs.Naming.{AreSound, IsOnCircle, Leads, step, more, Names, NoneTwice}
+use Rattle.reg_registry.specs.Naming.{IsOnCircle, Leads, step, more, Names, NoneTwice}
 use Rattle.reg_registry.specs.Rows.{Rows, id_at}
 use Rattle.reg_closure.proofs.PlacedLemmas.{Contains-at, Contains-cases, Contains-first, Contains-rest, in-names, names-in, place-of, place-take, take-place}
 use Rattle.reg_closure.specs.Closure.{IsIn}

@@ -1,9 +1,10 @@
 -- For private contracts: at which places of a list each name is listed, and an order of all names.
-use Rattle.std.specs.Prelude.{◌≡◌, ℕ, ◌+◌, ◌<◌, Bool, not, ◌&&◌, List, [], ◌∷◌, ◌++◌, length, slice_index_or, sum_by, All, Contains, if◌then◌else◌}
+use Rattle.std.specs.Prelude.{◌≡◌, ℕ, ◌+◌, ◌<◌, Bool, ◌&&◌, List, [], ◌∷◌, ◌++◌, length, slice_index_or, sum_by, All, Contains, if◌then◌else◌}
 use Rattle.reg_registry.specs.Naming.{Names}
 use Rattle.reg_registry.specs.declared.registry.Block.{Block}
 use Rattle.reg_registry.specs.declared.registry.Row.{Row}
 use Rattle.reg_closure.specs.Closure.{has_name, lists_name}
+use Rattle.reg_closure.specs.Marking.{is_kind}
 
 -- the places of what passes, counted from a number on
 abbrev pub places_from : {A : Type 0} → (A → Bool) → ℕ → List A → List ℕ
@@ -26,15 +27,11 @@ pub record AreListed {A : Type 0} (lists : ℕ → A → Bool) (pairs : A → �
   pub each : (name : ℕ) → name < many → list_at table name ≡ places_from (lists name) 0 xs
   pub total : sum_by length table ≡ sum_by pairs xs
 
--- the block is one of those that require, or else of those that remove
-abbrev pub is_wanted : Bool → Block → Bool
-is_wanted adds b = if adds then b.adds else not b.adds
-
 abbrev pub block_lists : Bool → ℕ → Block → Bool
-block_lists adds name b = is_wanted adds b && lists_name name b
+block_lists adds name b = is_kind adds b && lists_name name b
 
 abbrev pub block_pairs : Bool → Block → ℕ
-block_pairs adds b = if is_wanted adds b then length b.lists else 0
+block_pairs adds b = if is_kind adds b then length b.lists else 0
 
 abbrev pub row_lists : ℕ → Row → Bool
 row_lists name row = has_name row.named name

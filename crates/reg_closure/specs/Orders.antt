@@ -1,5 +1,5 @@
 -- The order in which the names of a set are declared: each behind all that it names, and else as the registry has them. The rule is this tool's own.
-use Rattle.std.specs.Prelude.{◌≡◌, ℕ, ◌<◌, Bool, List, length, filter, take, slice_get, slice_index_or, Some, false, Contains}
+use Rattle.std.specs.Prelude.{◌≡◌, ℕ, ◌<◌, Bool, List, filter, take, slice_get, slice_index_or, Some, false, Contains}
 use Rattle.vkb_bytes.specs.First.{IsFirst}
 use Rattle.reg_registry.specs.declared.registry.Row.{Row}
 use Rattle.reg_registry.specs.Naming.{Names}

@@ -1,9 +1,8 @@
 -- For each declared name a node that says at which choices the closure has it, how many nodes that takes, and how large what such a node
 -- reaches is.
-use Rattle.std.specs.Prelude.{◌≡◌, ◌⊎◌, ℕ, ◌+◌, ◌*◌, ◌<◌, ◌≤◌, Bool, true, false, not, List, length, map, filter, sum_by, slice_get, slice_index_or, Some, Contains, All}
+use Rattle.std.specs.Prelude.{◌≡◌, ◌⊎◌, ℕ, ◌+◌, ◌*◌, ◌<◌, ◌≤◌, Bool, true, false, List, length, filter, sum_by, slice_get, slice_index_or, Some, Contains, All}
 use Rattle.vkb_formula.specs.Formulas.{size_of}
 use Rattle.vkb_formula.specs.Pools.{node_clauses, node_variables, pool_values, sum_reached}
-use Rattle.vkb_formula.specs.declared.name_table.NameId.{NameId}
 use Rattle.vkb_formula.specs.declared.pool.NodeId.{NodeId}
 use Rattle.vkb_formula.specs.declared.pool.PoolNode.{PoolNode}
 use Rattle.reg_registry.specs.Depends.{words_of}
