@@ -1,6 +1,6 @@
 -- The name of the last line of an enum type: `VK_PRESENT_MODE_MAX_ENUM_KHR` for `VkPresentModeKHR`. Its form is that of `vulkan_core.h`.
-use Rattle.std.specs.Prelude.{ℕ, ◌-◌, Bool, ◌&&◌, ◌||◌, nat_eq, nat_lt, nat_le, List, [], ◌∷◌, ◌++◌, length, take, filter, codes, if◌then◌else◌}
-use Rattle.std.specs.Char.{to_ascii_uppercase}
+use Rattle.std.specs.Prelude.{ℕ, ◌-◌, Bool, ◌&&◌, ◌||◌, nat_eq, nat_lt, List, [], ◌∷◌, ◌++◌, length, take, filter, codes, if◌then◌else◌}
+use Rattle.std.specs.Char.{is_ascii_lowercase, is_ascii_uppercase, to_ascii_uppercase}
 use Rattle.std.specs.List.{ends_with, fold}
 use Rattle.vkb_bytes.specs.Bytes.{is_digit}
 
@@ -15,15 +15,9 @@ longer_of one other = if nat_lt (length one) (length other) then other else one
 abbrev pub tag_of : List (List ℕ) → List ℕ → List ℕ
 tag_of tags name = fold longer_of [] (filter (ends_in_tag name) tags)
 
-abbrev pub is_upper : ℕ → Bool
-is_upper byte = nat_le 65 byte && nat_le byte 90
-
-abbrev pub is_lower : ℕ → Bool
-is_lower byte = nat_le 97 byte && nat_le byte 122
-
 -- a word begins with this byte, behind the one before it
 abbrev pub begins_word : ℕ → ℕ → Bool
-begins_word before byte = (is_upper byte && (is_lower before || is_digit before)) || (is_digit byte && is_lower before)
+begins_word before byte = (is_ascii_uppercase byte && (is_ascii_lowercase before || is_digit before)) || (is_digit byte && is_ascii_lowercase before)
 
 -- in upper case, with `_` before each byte that begins a word
 abbrev pub words_behind : ℕ → List ℕ → List ℕ

@@ -1,6 +1,6 @@
 //! The names of the last lines of enum types.
 ghost use Rattle.std.specs.Prelude.{◌≡◌, ◌-◌, ◌≤◌, ◌++◌, IfOk, OnOk, drop, length};
-ghost use Rattle.hdr_writer.specs.MaxNames.{begins_word, is_lower, is_upper, max_name, tag_end, tag_of, words};
+ghost use Rattle.hdr_writer.specs.MaxNames.{begins_word, max_name, tag_end, tag_of, words};
 
 use crate::lines::put;
 use std::alloc::Global;
@@ -53,20 +53,8 @@ fn put_words(text: &mut Vec<u8>, name: &[u8]) -> Result<(), Memory>
 fn begins_word(before: u8, byte: u8) -> bool
     ensures { result ≡ begins_word before byte }
 {
-    (is_upper(byte) && (is_lower(before) || is_digit(before)))
-        || (is_digit(byte) && is_lower(before))
-}
-
-fn is_upper(byte: u8) -> bool
-    ensures { result ≡ is_upper byte }
-{
-    matches!(byte, b'A'..=b'Z')
-}
-
-fn is_lower(byte: u8) -> bool
-    ensures { result ≡ is_lower byte }
-{
-    matches!(byte, b'a'..=b'z')
+    (byte.is_ascii_uppercase() && (before.is_ascii_lowercase() || is_digit(before)))
+        || (is_digit(byte) && before.is_ascii_lowercase())
 }
 
 /// Puts a tag behind a text, if there is one.
