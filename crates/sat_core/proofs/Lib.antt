@@ -24,3 +24,4 @@ mod SettleLemmas
 mod VisitLemmas
 mod WalkLemmas
 pub mod SolvingLemmas
+pub mod AskingLemmas

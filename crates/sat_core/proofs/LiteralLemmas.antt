@@ -14,14 +14,14 @@ pub same-lit : (a b : Lit) → a.0 ≡ b.0 → a ≡ b
 unfolding lit_of
 same-lit a b e = ap lit_of e
 
-abbrev IsAbove : Lit → Type 0
+abbrev pub IsAbove : Lit → Type 0
 IsAbove lit = (is_negated lit ≡ true) × (lit.0 % 2 ≡ 1) × ((negation_of lit).0 + 1 ≡ lit.0)
 
-abbrev IsUnder : Lit → Type 0
+abbrev pub IsUnder : Lit → Type 0
 IsUnder lit = (is_negated lit ≡ false) × (lit.0 % 2 ≡ 0) × ((negation_of lit).0 ≡ lit.0 + 1)
 
 -- a literal stands right above or right under its negation
-above_or_under : (lit : Lit) → IsAbove lit ⊎ IsUnder lit
+pub above_or_under : (lit : Lit) → IsAbove lit ⊎ IsUnder lit
 above_or_under lit =
     ⊎_elim (λ p. inl (p.0, p.1, rw p.0 (omega arith))) (λ p. inr (p.0, omega (arith, p.1), rw p.0 refl)) (eqb_tells (lit.0 % 2) 1)
 

@@ -237,7 +237,7 @@ all-left P xs ys h k d l = subst P (get_or_append_left xs ys d k l) (h k d (omeg
 
 module _ (set : List Bool) (vars : ℕ) (known : List Lit)
     (truths : (variable : ℕ) → variable < vars → IsTruthOf known (record { 0 = 2 * variable }) (slice_index_or set variable false)) where
-  lit-true : (lit : Lit) → IsWithin vars lit → Contains known lit → lit_value set lit ≡ true
+  pub lit-true : (lit : Lit) → IsWithin vars lit → Contains known lit → lit_value set lit ≡ true
   lit-true lit within stands =
       let even : Lit = record { 0 = 2 * variable_of lit } in
       let truth = truths (variable_of lit) (variable-within vars lit within) in

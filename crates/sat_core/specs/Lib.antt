@@ -7,3 +7,4 @@ pub mod Outcomes
 pub mod Analysing
 pub mod Walking
 pub mod Solving
+pub mod Asking

@@ -2,8 +2,8 @@
 //! `solve`, which comes to a set or to a refutation that `sat_proof` judges.
 //!
 //! It reads `Clauses` of at most 16,777,216 variables and as many clauses (`sat_cnf`: variable v is the literal `Lit(2v)`, and its negation
-//! `Lit(2v + 1)`). `solve` gives a value for each variable, or the steps of a refutation (`sat_proof`). A `Search` is what `solve` drives,
-//! for callers that drive it themselves.
+//! `Lit(2v + 1)`). `solve` gives a value for each variable, or the steps of a refutation (`sat_proof`). An `Asker` answers one question after
+//! another. A `Search` is what both drive, for callers that drive it themselves.
 //!
 //! # What a search holds
 //!
@@ -41,39 +41,18 @@
 //!
 //! # Many questions of one set of clauses
 //!
-//! A caller that asks whether the clauses can be satisfied with some literals true, its assumptions, decides those first. A question ends
-//! with `undo(0)`, where a decision stands, so that the next begins with none. What was learned stays, since it follows from the clauses alone, whatever was decided
+//! A caller that asks time and again whether the clauses can be satisfied with some literal true makes an `Asker`. Each question begins with
+//! no decision and decides its literal first. What was learned stays, since it follows from the clauses alone, whatever was decided
 //! (`what_stands_follows`): later questions need fewer conflicts.
 //!
 //! ```text
-//! /// Whether some set satisfies the clauses and makes the literals true that are asked for. The search is not struck.
-//! fn allows(alloc: Global, search: &mut Search<'_>, asked: &[Lit]) -> Result<bool, Memory> {
-//!     loop {
-//!         if let Some(conflict) = search.propagate() {
-//!             if search.decisions() == 0 {
-//!                 return Ok(false);                     // there is no set at all: no more questions
-//!             }
-//!             let learned = analyse(alloc, search, conflict)?;
-//!             search.undo(learned.back);                // decides some of `asked` anew, in the next rounds
-//!             search.learn(learned.step)?;
-//!             continue;
-//!         }
-//!         match next_to_decide(search, asked) {         // one of `asked` that isn't true, else a literal of an undecided variable
-//!             None => return Ok(true),                  // all are true, and `trail` is the set
-//!             Some(lit) if search.value(lit) == Some(false) => return Ok(false),
-//!             Some(lit) => search.decide(lit),
-//!         }
-//!     }
-//! }
-//!
-//! let first = allows(alloc, &mut search, &[Lit(0), Lit(5)])?;
-//! if search.decisions() > 0 {
-//!     search.undo(0);
-//! }
-//! let second = allows(alloc, &mut search, &[Lit(4)])?;
+//! let mut asker = Asker::new(alloc, &clauses)?;         // the clauses from above
+//! asker.ask(Lit(1))?                                    // None: where they are satisfied, x0 is true
+//! asker.ask(Lit(4))?                                    // Some([true, false, true])
 //! ```
 #![tactic(auto)]
 
+mod asking;
 mod conflict;
 mod entry;
 mod heap;
@@ -91,6 +70,7 @@ mod solving;
 mod sparing;
 mod trail;
 
+pub use asking::Asker;
 pub use conflict::{Learned, analyse};
 pub use entry::Entry;
 pub use laws::what_stands_follows;

@@ -124,6 +124,14 @@ impl<'a> Search<'a> {
         self.phase = Phase::Fresh;
     }
 
+    /// How many variables there are. It takes no memory.
+    pub fn vars(&self) -> u32
+        ensures vars { result ≡ self.now.vars }
+        ensures few { self.now.vars ≤ most }
+    {
+        self.clauses.vars()
+    }
+
     /// Whether a literal is true, or false, or neither. It takes no memory.
     pub fn value(&self, lit: Lit) -> Option<bool>
         requires { IsWithin self.now.vars lit }

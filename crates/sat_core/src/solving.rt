@@ -1,9 +1,12 @@
 //! Solving clauses by a search that learns.
-ghost use Rattle.std.specs.Prelude.{◌≡◌, ℕ, ◌*◌, ◌<◌, ◌≤◌, [], All, length, IfOk, OnOk};
+ghost use Rattle.std.specs.Prelude.{◌≡◌, ◌⊎◌, ℕ, ◌*◌, ◌<◌, ◌≤◌, [], true, All, Contains, length, IfOk, OnOk};
+ghost use Rattle.sat_cnf.specs.declared.lit.Lit.{Lit};
 ghost use Rattle.sat_cnf.specs.Clauses.{IsWithin};
+ghost use Rattle.sat_cnf.specs.Models.{Satisfies, lit_value};
 ghost use Rattle.sat_proof.specs.Refutations.{Follows};
-ghost use Rattle.sat_core.specs.declared.phase.Phase.TheVariants.{Quiet};
+ghost use Rattle.sat_core.specs.declared.phase.Phase.TheVariants.{Fresh, Quiet};
 ghost use Rattle.sat_core.specs.Analysis.{IsLearnedFrom};
+ghost use Rattle.sat_core.specs.Asking.{KeepsLeads, Leads};
 ghost use Rattle.sat_core.specs.Outcomes.{IsOutcome};
 ghost use Rattle.sat_core.specs.Searching.{IsOpen, held_in, most};
 ghost use Rattle.sat_core.specs.Solving.{ComesFurther, Decides, EndsRun, IsDecided, IsTruthOf, cnf_of};
@@ -48,10 +51,16 @@ pub fn solve(alloc: Global, clauses: &Clauses) -> Result<Outcome, Memory>
 }
 
 /// Goes back to where what was learned asserts a literal, and takes the step.
-fn jump_back(search: &mut Search<'_>, order: &mut Order, learned: Learned) -> Result<(), Memory>
+pub(crate) fn jump_back(
+    search: &mut Search<'_>,
+    order: &mut Order,
+    learned: Learned,
+) -> Result<(), Memory>
     requires learned { IsLearnedFrom search.old learned }
     requires decisions { 0 < decisions_of search.old.trail }
-    ensures { OnOk result (ComesFurther search.old search.new) }
+    ensures further { OnOk result (ComesFurther search.old search.new) }
+    ensures leads { OnOk result (KeepsLeads search.old.trail search.new.trail) }
+    ensures cnf { cnf_of search.new ≡ cnf_of search.old }
 {
     order.heed(search, learned.step.hints.as_slice());
     order.release(search.trail(), learned.back)?;
@@ -61,10 +70,29 @@ fn jump_back(search: &mut Search<'_>, order: &mut Order, learned: Learned) -> Re
 }
 
 /// Counts a conflict, and takes all decisions back where a run ends with it.
-fn end_run(search: &mut Search<'_>, order: &mut Order, runs: &mut Runs) -> Result<(), Memory>
-    ensures { OnOk result (EndsRun search.old runs.old.left search.new runs.new.left) }
+pub(crate) fn end_run(
+    search: &mut Search<'_>,
+    order: &mut Order,
+    runs: &mut Runs,
+) -> Result<(), Memory>
+    ensures ends { OnOk result (EndsRun search.old runs.old.left search.new runs.new.left) }
+    ensures leads { KeepsLeads search.old.trail search.new.trail }
+    ensures cnf { cnf_of search.new ≡ cnf_of search.old }
 {
-    if runs.end_with_conflict() && search.decisions() > 0 {
+    if runs.end_with_conflict() {
+        take_back(search, order)?;
+    }
+    Ok(())
+}
+
+/// Takes all decisions back.
+pub(crate) fn take_back(search: &mut Search<'_>, order: &mut Order) -> Result<(), Memory>
+    ensures none { OnOk result (decisions_of search.new.trail ≡ 0) }
+    ensures phase { (search.new.phase ≡ Fresh) ⊎ (search.new.phase ≡ search.old.phase) }
+    ensures leads { KeepsLeads search.old.trail search.new.trail }
+    ensures cnf { cnf_of search.new ≡ cnf_of search.old }
+{
+    if search.decisions() > 0 {
         order.release(search.trail(), 0)?;
         search.undo(0);
     }
@@ -72,11 +100,12 @@ fn end_run(search: &mut Search<'_>, order: &mut Order, runs: &mut Runs) -> Resul
 }
 
 /// Decides a literal, if one is undecided.
-fn decides(search: &mut Search<'_>, order: &mut Order, vars: u32) -> bool
+pub(crate) fn decides(search: &mut Search<'_>, order: &mut Order, vars: u32) -> bool
     requires vars { vars ≡ search.old.vars }
     requires few { vars ≤ most }
     requires quiet { search.old.phase ≡ Quiet }
-    ensures { Decides search.old result search.new }
+    ensures decides { Decides search.old result search.new }
+    ensures leads { (lit : Lit) → Contains (lits_of search.old.trail) lit → Leads lit search.old.trail → Leads lit search.new.trail }
 {
     prove!(search.trail().len() <= vars as usize);
     match order.next(search, vars) {
@@ -110,12 +139,26 @@ fn model(alloc: Global, search: &Search<'_>, vars: u32) -> Result<Outcome, Memor
     requires open { All (IsOpen (lits_of search.now.trail)) (held_in search.now) }
     ensures { IfOk result (IsOutcome (cnf_of search.now)) }
 {
+    Ok(Outcome::Model(values(alloc, search, vars)?))
+}
+
+/// A value for each variable, where all are decided.
+pub(crate) fn values(alloc: Global, search: &Search<'_>, vars: u32) -> Result<Listed<bool>, Memory>
+    requires vars { vars ≡ search.now.vars }
+    requires few { vars ≤ most }
+    requires decided { IsDecided search.now }
+    requires open { All (IsOpen (lits_of search.now.trail)) (held_in search.now) }
+    ensures each { IfOk result (λ set. length set ≡ search.now.vars) }
+    ensures satisfies { IfOk result (λ set. Satisfies set search.now.clauses) }
+    ensures stands { IfOk result (λ set. (lit : Lit) → IsWithin search.now.vars lit → Contains (lits_of search.now.trail) lit
+        → lit_value set lit ≡ true) }
+{
     literals_are_within(search);
     let mut values = Vec::with_capacity(alloc, vars as usize)?;
     for variable in 0..vars {
         values.push(is_true(search, Lit(2 * variable)))?;
     }
-    Ok(Outcome::Model(Listed::from_vec(values)))
+    Ok(Listed::from_vec(values))
 }
 
 /// A law: the literals of the clauses are of the search's variables.

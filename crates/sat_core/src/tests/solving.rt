@@ -9,7 +9,7 @@ use std::alloc::Global;
 use std::test::Fail;
 
 /// Puts a clause last, of those literals that the clauses' variables have.
-fn put(alloc: Global, clauses: &mut Clauses, numbers: &[u32]) -> Result<(), Memory> {
+pub(super) fn put(alloc: Global, clauses: &mut Clauses, numbers: &[u32]) -> Result<(), Memory> {
     let mut clause = Vec::new(alloc);
     for number in numbers {
         if u64::from(*number) < 2 * u64::from(clauses.vars()) {
@@ -20,7 +20,7 @@ fn put(alloc: Global, clauses: &mut Clauses, numbers: &[u32]) -> Result<(), Memo
 }
 
 /// Clauses by the numbers of their literals.
-fn clauses_of(alloc: Global, vars: u32, list: &[&[u32]]) -> Result<Clauses, Memory> {
+pub(super) fn clauses_of(alloc: Global, vars: u32, list: &[&[u32]]) -> Result<Clauses, Memory> {
     let mut clauses = Clauses::new(alloc, vars);
     for numbers in list {
         put(alloc, &mut clauses, numbers)?;
@@ -29,7 +29,7 @@ fn clauses_of(alloc: Global, vars: u32, list: &[&[u32]]) -> Result<Clauses, Memo
 }
 
 /// The literal that a pigeon is in a hole.
-fn seat(pigeon: u32, hole: u32) -> u32
+pub(super) fn seat(pigeon: u32, hole: u32) -> u32
     requires pigeon { pigeon ≤ 8 }
     requires hole { hole ≤ 8 }
     ensures { result < 1000 }
@@ -37,8 +37,8 @@ fn seat(pigeon: u32, hole: u32) -> u32
     2 * (8 * pigeon + hole)
 }
 
-/// So many pigeons into one hole less.
-fn pigeons(alloc: Global, holes: u32) -> Result<Clauses, Memory>
+/// So many pigeons into one hole less, each of them unless one of some literals is true.
+pub(super) fn pigeons(alloc: Global, holes: u32, unless: &[u32]) -> Result<Clauses, Memory>
     requires { holes < 8 }
 {
     let mut clauses = Clauses::new(alloc, 64);
@@ -47,6 +47,7 @@ fn pigeons(alloc: Global, holes: u32) -> Result<Clauses, Memory>
         for hole in 0..holes {
             clause.push(seat(pigeon, hole))?;
         }
+        clause.extend_from_slice(unless)?;
         put(alloc, &mut clauses, clause.as_slice())?;
         for other in 0..pigeon {
             for hole in 0..holes {
@@ -115,7 +116,7 @@ fn is_true(clause: &[Lit], values: &[bool]) -> bool {
 fn pigeons_are_refuted(rt: HostRuntime) -> Result<(), Fail> {
     let alloc = rt.alloc();
     for holes in 0..7 {
-        let clauses = pigeons(alloc, holes)?;
+        let clauses = pigeons(alloc, holes, &[])?;
         assert!(rt; is_refuted(alloc, &clauses)?);
     }
     Ok(())

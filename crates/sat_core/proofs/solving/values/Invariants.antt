@@ -1,7 +1,7 @@
 use Rattle.std.proofs.Common.{◌≡◌, ℕ, ◌*◌, ◌<◌, false, length, slice_index_or}
 use Rattle.sat_core.specs.Solving.{IsTruthOf}
 use Rattle.sat_core.specs.Trails.{lits_of}
-use Rattle.sat_core.proofs.solving.model.Given as goal
+use Rattle.sat_core.proofs.solving.values.Given as goal
 
 abbrev pub invariant-loop-variable : goal.invariant-loop-variable
 invariant-loop-variable l =
