@@ -10,14 +10,17 @@ pub mod FormSizeLemmas
 pub mod FrontLemmas
 pub mod ItemLemmas
 pub mod ItemSizeLemmas
+pub mod LawLemmas
 pub mod MemberLemmas
 pub mod MemberSizeLemmas
 pub mod MentionSizeLemmas
+pub mod MentionSortLemmas
 pub mod OptionLemmas
 pub mod OptionSizeLemmas
 pub mod ReadingLemmas
 pub mod RepeatLemmas
 pub mod RootSizeLemmas
+pub mod RiseLemmas
 pub mod RowLemmas
 pub mod SilentLemmas
 pub mod TextSizeLemmas

@@ -1,10 +1,12 @@
 -- Members whose name stands before them, by a table of the names so far.
-use Rattle.std.proofs.Common.{◌≡◌, ℕ, ◌+◌, true, false, ◌||◌, nat_eq, List, [], ◌∷◌, ◌++◌, Option, Some, None, length, refl, sym, ap, subst, ◌∙◌, arith, inl, inr, length-append}
+use Rattle.std.proofs.Common.{◌≡◌, ℕ, ◌+◌, true, false, ◌||◌, nat_eq, List, [], ◌∷◌, ◌++◌, Option, Some, None, length, map, refl, sym, ap, subst, ◌∙◌, arith, inl, inr, length-append}
 use Rattle.std.specs.Prelude.{is_some, option_map, if◌then◌else◌}
+use Rattle.std.specs.List.{list_any}
 use Rattle.std.specs.Str.{bytes_eq}
 use Rattle.std.specs.Cmp.Lexicographic.{bytes_decides}
 use Rattle.std.proofs.lemmas.Bool.{cases_Bool, cond-true, cond-false, eq-eqb, ne_eqb}
 use Rattle.std.proofs.Math.Bool.{or_comm, or-false}
+use Rattle.std.proofs.lemmas.List.{map-append}
 use Rattle.std.proofs.lemmas.List.Folds.{list_any-append}
 use Rattle.vkb_formula.specs.Names.{place_of, with_name}
 use Rattle.reg_forms.specs.declared.forms.Forms.{Forms}
@@ -61,6 +63,20 @@ last-same names name other =
     or_comm (bytes_eq other name) (is_among names other)
     ∙ ap (λ b. is_among names other || b) (sym (or-false (bytes_eq other name)))
     ∙ sym (list_any-append (bytes_eq other) names (name ∷ []))
+
+-- whether some member has a name, by the members and by their names
+among-members : (name : List ℕ) (members : List MemberForm) → list_any (λ member. bytes_eq name member.name) members ≡ is_among (map (λ member. member.name) members) name
+among-members name [] = refl
+among-members name (first ∷ more) = ap (λ b. bytes_eq name first.name || b) (among-members name more)
+
+-- a member whose name stands in none before it is passed over
+pub differs-on : (before : List MemberForm) (member : MemberForm) (more : List MemberForm) → list_any (λ other. bytes_eq member.name other.name) before ≡ false → repeated (map (λ m. m.name) before) (member ∷ more) ≡ repeated (map (λ m. m.name) (before ++ member ∷ [])) more
+differs-on before member more apart =
+    let names = map (λ (m : MemberForm). m.name) before in
+    ap (λ b. (if b then Item.wrong (record { code = DuplicateName; at = member.place; word = member.name }) ∷ [] else []) ++ repeated (member.name ∷ names) more)
+    (sym (among-members member.name before) ∙ apart)
+    ∙ repeated-same (member.name ∷ names) (names ++ member.name ∷ []) more (last-same names member.name)
+    ∙ ap (λ ns. repeated ns more) (sym (map-append (λ m. m.name) before (member ∷ [])))
 
 table-known : (names : List (List ℕ)) (name : List ℕ) → is_among names name ≡ true → with_name name names ≡ names
 table-known names name known = cond-true (is_some (place_of name names)) names (names ++ name ∷ []) (among-place names name ∙ known)

@@ -5,6 +5,7 @@ pub mod EnumTypes
 pub mod Enums
 pub mod Forms
 pub mod Items
+pub mod Laws
 pub mod Options
 pub mod Parts
 pub mod Sizes

@@ -31,6 +31,7 @@ mod enum_types;
 mod enums;
 mod forms;
 mod groups;
+mod laws;
 mod options;
 mod parts;
 mod reading;
@@ -47,6 +48,7 @@ pub use forms::{
     BlockForm, Declaration, DependsText, EntryForm, EnumForm, Fault, Forms, Given, GroupForm,
     MemberForm, Mention, OptionForm, RowCode, Sort,
 };
+pub use laws::{declarations_rise, only_commands_mention_commands};
 use reg_reader::Element;
 use std::alloc::Global;
 pub use vkb_bytes::Memory;

@@ -1,5 +1,7 @@
 //! Members whose name stands before them.
-ghost use Rattle.std.specs.Prelude.{◌≡◌, [], IfOk};
+ghost use Rattle.std.specs.Prelude.{◌≡◌, [], IfOk, IsTrue};
+ghost use Rattle.std.specs.List.{list_any};
+ghost use Rattle.std.specs.Str.{bytes_eq};
 ghost use Rattle.reg_forms.specs.Forms.{with_item, with_items};
 ghost use Rattle.reg_forms.specs.Items.{Item};
 ghost use Rattle.reg_forms.specs.Parts.{repeated};
@@ -19,6 +21,9 @@ pub(crate) fn put_repeated(
 ) -> Result<(), Memory>
     ensures { IfOk result (λ _. draft.new ≡ with_items draft.old (repeated [] members.now)) }
 {
+    if differ_at_sight(members) {
+        return Ok(());
+    }
     let mut seen = Names::new(alloc);
     for member in members {
         let before = seen.len();
@@ -28,6 +33,36 @@ pub(crate) fn put_repeated(
         }
     }
     Ok(())
+}
+
+/// How many members are compared with each other, rather than looked up in a table.
+const MOST_COMPARED: usize = 16;
+
+/// Whether these members are few and no two have one name.
+fn differ_at_sight(members: &[MemberForm]) -> bool
+    ensures { IsTrue result → repeated [] members.now ≡ [] }
+{
+    if members.len() > MOST_COMPARED {
+        return false;
+    }
+    for at in 0..members.len() {
+        if is_among(&members[..at], members[at].name.as_slice()) {
+            return false;
+        }
+    }
+    true
+}
+
+/// Whether some member has this name.
+fn is_among(members: &[MemberForm], name: &[u8]) -> bool
+    ensures { result ≡ list_any (λ member. bytes_eq name.now member.name) members.now }
+{
+    for member in members {
+        if name == member.name.as_slice() {
+            return true;
+        }
+    }
+    false
 }
 
 /// Puts in that the name of a member stands before it.

@@ -11,6 +11,9 @@ use std::alloc::Global;
 use std::marker::Model;
 use vkb_bytes::{Bytes, Memory};
 
+/// For how many bytes of a text there is room at first, so that most texts of several parts are never moved.
+const TEXT_BYTES: usize = 64;
+
 /// An element of a tree, with the bytes that spell it.
 #[derive(Debug, Drop)]
 pub struct Element<'a> {
@@ -92,7 +95,11 @@ impl<'a> Element<'a> {
     pub fn text(&self, alloc: Global) -> Result<Bytes, Memory>
         ensures { IfOk result (λ text. text ≡ text_in self.now.content) }
     {
-        let mut text = Vec::new(alloc);
+        if let [Node::Chars(part)] = self.children {
+            let text = characters::undo(alloc, self.bytes, *part)?;
+            return Ok(Bytes::from_vec(text));
+        }
+        let mut text = Vec::with_capacity(alloc, TEXT_BYTES)?;
         put_text(alloc, self.bytes, self.children, &mut text)?;
         Ok(Bytes::from_vec(text))
     }

@@ -15,11 +15,11 @@ use Rattle.reg_forms.specs.declared.forms.MemberForm.{MemberForm}
 use Rattle.reg_forms.specs.declared.forms.Fault.{Fault}
 use Rattle.reg_forms.specs.declared.forms.Forms.{Forms}
 use Rattle.reg_forms.specs.declared.forms.OptionForm.{OptionForm}
-use Rattle.reg_rows.specs.Answer.{AreReadOnce, AreReadings, IsAccepted}
-use Rattle.reg_rows.specs.Bits.{Readings}
+use Rattle.reg_tables.specs.Bits.{Readings}
+use Rattle.reg_tables.specs.Tables.{features_in}
+use Rattle.reg_tables.specs.Words.{AreReadings, AreWords}
+use Rattle.reg_rows.specs.Answer.{AreReadOnce, IsAccepted}
 use Rattle.reg_rows.specs.Faults.{IsFirst, faults_of}
-use Rattle.reg_rows.specs.Found.{AreWords}
-use Rattle.reg_rows.specs.Tables.{features_in}
 
 -- the first fault, if there is one
 abbrev pub IsFirstOf : Forms → Option Fault → Type 0

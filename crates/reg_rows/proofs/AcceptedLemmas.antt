@@ -6,12 +6,11 @@ use Rattle.vkb_formula.specs.Names.{most_names}
 use Rattle.reg_registry.specs.Naming.{AreSound, IsOnCircle, IsSoundRow, most_bytes}
 use Rattle.reg_forms.specs.Sizes.{AreSmall}
 use Rattle.reg_forms.specs.declared.forms.Forms.{Forms}
+use Rattle.reg_tables.specs.Bits.{Readings, atom_of, bits_of}
+use Rattle.reg_tables.specs.declared.bits.Bit.{Bit}
 use Rattle.reg_rows.specs.Answer.{AreReadOnce, IsAccepted}
-use Rattle.reg_rows.specs.Bits.{Readings, bits_of}
 use Rattle.reg_rows.specs.Built.{AreOptions}
-use Rattle.reg_rows.specs.Found.{atom_of}
 use Rattle.reg_rows.specs.Rows.{declared_in, names_in, option_names, row_of, rows_of}
-use Rattle.reg_rows.specs.declared.bits.Bit.{Bit}
 use Rattle.reg_rows.proofs.ApartLemmas.{apart-different, firsts-apart}
 use Rattle.reg_rows.proofs.NumberLemmas.{numbers-differ}
 use Rattle.reg_rows.proofs.SoundNameLemmas.{names-few, options-apart, options-few, options-named}

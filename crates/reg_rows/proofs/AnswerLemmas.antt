@@ -11,14 +11,15 @@ use Rattle.reg_forms.specs.declared.forms.DependsText.{DependsText}
 use Rattle.reg_forms.specs.declared.forms.Fault.{Fault}
 use Rattle.reg_forms.specs.declared.forms.Forms.{Forms}
 use Rattle.reg_forms.specs.declared.forms.OptionForm.{OptionForm}
-use Rattle.reg_rows.specs.Answer.{AreReadings, IsAccepted, IsAnswer, IsReadAs}
-use Rattle.reg_rows.specs.Bits.{Readings}
+use Rattle.reg_tables.specs.Bits.{Readings}
+use Rattle.reg_tables.specs.Tables.{features_in}
+use Rattle.reg_tables.specs.Words.{AreReadings, IsReadAs}
+use Rattle.reg_rows.specs.Answer.{IsAccepted, IsAnswer}
 use Rattle.reg_rows.specs.Faults.{IsFirst, faults_of}
 use Rattle.reg_rows.specs.Laws.{EachIsAnswered, IsTold, RowsAreWithin}
 use Rattle.reg_rows.specs.Rows.{declared_in, names_in, row_of, rows_of}
-use Rattle.reg_rows.specs.Tables.{features_in}
+use Rattle.reg_rows.specs.declared.fault.RowFault.TheVariants.{Bad, NamingCycle, NoFeature}
 use Rattle.reg_rows.specs.declared.fault.RowFault.{RowFault}
-use Rattle.reg_rows.specs.declared.fault.RowFault.TheVariants.{Bad, NoFeature, NamingCycle}
 use Rattle.reg_rows.proofs.AcceptedLemmas.{named-within}
 use Rattle.reg_rows.proofs.BuildLemmas.{found-within}
 use Rattle.reg_rows.proofs.OrderLemmas.{one-more}

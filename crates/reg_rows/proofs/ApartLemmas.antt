@@ -6,7 +6,7 @@ use Rattle.std.proofs.lemmas.Bool.{both_ways, cond-false, cond_both, false_from_
 use Rattle.std.proofs.lemmas.List.Elements.{All-cons, All-head, All-nil, All-tail}
 use Rattle.std.proofs.lemmas.List.Folds.{list_any-append}
 use Rattle.std.proofs.lemmas.Option.{none-some, same_Some}
-use Rattle.reg_rows.specs.Lists.{firsts, firsts_behind, is_among}
+use Rattle.reg_tables.specs.Lists.{firsts, firsts_behind, is_among}
 
 -- no name stands before itself
 abbrev pub Apart : List (List ℕ) → Type 0

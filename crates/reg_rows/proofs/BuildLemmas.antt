@@ -12,7 +12,7 @@ use Rattle.reg_registry.specs.declared.registry.Block.{Block}
 use Rattle.reg_registry.specs.declared.registry.OptionRow.{OptionRow}
 use Rattle.reg_registry.specs.declared.registry.Row.{Row}
 use Rattle.reg_forms.specs.declared.forms.Forms.{Forms}
-use Rattle.reg_rows.specs.Bits.{Readings}
+use Rattle.reg_tables.specs.Bits.{Readings}
 use Rattle.reg_rows.specs.Rows.{block_rows, declared_in, names_in, option_names, option_rows_of, row_of, rows_of}
 
 -- parts that are those of the rows are the rows

@@ -7,8 +7,8 @@ use Rattle.std.proofs.lemmas.Bool.{cases_Bool, eq-eqb, ne_eqb, or_from, or_parts
 use Rattle.std.proofs.Math.Dec.{eqb-zero-suc}
 use Rattle.std.proofs.lemmas.Bool.Decides.{nat_tests}
 use Rattle.vkb_formula.specs.Names.{AreDifferent, place_of}
-use Rattle.reg_rows.specs.Lists.{firsts, firsts_behind, is_among}
-use Rattle.reg_rows.specs.Tables.{first_named}
+use Rattle.reg_tables.specs.Lists.{firsts, firsts_behind, is_among}
+use Rattle.reg_tables.specs.Tables.{first_named}
 use Rattle.reg_rows.proofs.PlaceLemmas.{find-names}
 
 same_name : (a b : List ℕ) → bytes_eq a b ≡ true → a ≡ b

@@ -23,11 +23,12 @@ use Rattle.reg_forms.specs.declared.forms.EnumForm.{EnumForm}
 use Rattle.reg_forms.specs.declared.forms.Forms.{Forms}
 use Rattle.reg_forms.specs.declared.forms.Mention.{Mention}
 use Rattle.reg_forms.specs.declared.forms.Sort.TheVariants as sort
+use Rattle.reg_tables.specs.Lists.{firsts, is_among}
+use Rattle.reg_tables.specs.Tables.{is_sort}
 use Rattle.reg_rows.specs.Built.{IsFirstRow}
 use Rattle.reg_rows.specs.Listing.{AreByType, AreListed, AreLists, AreMarked, enum_place, is_end, places_besides, value_place, values_among}
-use Rattle.reg_rows.specs.Lists.{each_number, firsts, is_among}
+use Rattle.reg_rows.specs.Lists.{each_number}
 use Rattle.reg_rows.specs.Rows.{blocks_with, declared_in, enumerant_row, lists_value, names_in}
-use Rattle.reg_rows.specs.Tables.{is_sort}
 use Rattle.reg_rows.proofs.FirstRowsLemmas.{different-placed, firsts-find, firsts-push, place-is}
 use Rattle.reg_rows.proofs.PlaceLemmas.{place_of-within, position-names, slice_get-seam}
 

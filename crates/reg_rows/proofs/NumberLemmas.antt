@@ -7,9 +7,9 @@ use Rattle.reg_registry.specs.declared.registry.OptionRow.{OptionRow}
 use Rattle.reg_forms.specs.Sizes.{VersionsDiffer}
 use Rattle.reg_forms.specs.declared.forms.Forms.{Forms}
 use Rattle.reg_forms.specs.declared.forms.OptionForm.{OptionForm}
-use Rattle.reg_rows.specs.Bits.{Readings, bits_of}
+use Rattle.reg_tables.specs.Bits.{Readings, bits_of}
+use Rattle.reg_tables.specs.Tables.{extensions_in, features_in}
 use Rattle.reg_rows.specs.Rows.{bit_row, names_in, option_names, option_row, option_rows_of}
-use Rattle.reg_rows.specs.Tables.{extensions_in, features_in}
 
 module _ {X : Type 0} (number : X → Option (ℕ × ℕ)) where
   -- by places: things at two places have different numbers

@@ -11,8 +11,9 @@ use Rattle.vkb_formula.specs.Names.{place_of, with_name}
 use Rattle.reg_forms.specs.declared.forms.Fault.{Fault}
 use Rattle.reg_forms.specs.declared.forms.OptionForm.{OptionForm}
 use Rattle.reg_forms.specs.declared.forms.RowCode.TheVariants.{DuplicateName}
-use Rattle.reg_rows.specs.Faults.{fault_if, offered_twice}
-use Rattle.reg_rows.specs.Lists.{is_among}
+use Rattle.reg_tables.specs.Lists.{is_among}
+use Rattle.reg_tables.specs.Wrong.{fault_if}
+use Rattle.reg_rows.specs.Faults.{offered_twice}
 
 -- a name is among some exactly if their table has a place for it
 pub among-place : (names : List (List ℕ)) (name : List ℕ) → is_some (place_of name names) ≡ is_among names name

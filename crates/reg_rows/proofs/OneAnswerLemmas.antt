@@ -15,14 +15,15 @@ use Rattle.reg_forms.specs.declared.forms.Fault.{Fault}
 use Rattle.reg_forms.specs.declared.forms.Forms.{Forms}
 use Rattle.reg_forms.specs.declared.forms.RowCode.{RowCode}
 use Rattle.reg_forms.specs.declared.forms.RowCode.TheVariants.{BadAttribute, ApiType, BadExpression, DuplicateName, UnknownName, ValueRange, ValueClash, AliasCircle, NameLimit}
-use Rattle.reg_rows.specs.Answer.{AreReadings, IsAccepted, IsAnswer, IsReadAs}
-use Rattle.reg_rows.specs.Bits.{Readings}
+use Rattle.reg_tables.specs.Bits.{Readings}
+use Rattle.reg_tables.specs.Tables.{features_in}
+use Rattle.reg_tables.specs.Words.{AreReadings, IsReadAs}
+use Rattle.reg_rows.specs.Answer.{IsAccepted, IsAnswer}
 use Rattle.reg_rows.specs.Faults.{IsFirst, faults_of, rank, stands_before}
 use Rattle.reg_rows.specs.Laws.{AnswersAreOne, IsSameAnswer, IsTold}
 use Rattle.reg_rows.specs.Rows.{names_in, rows_of}
-use Rattle.reg_rows.specs.Tables.{features_in}
+use Rattle.reg_rows.specs.declared.fault.RowFault.TheVariants.{Bad, Memory, NamingCycle, NoFeature}
 use Rattle.reg_rows.specs.declared.fault.RowFault.{RowFault}
-use Rattle.reg_rows.specs.declared.fault.RowFault.TheVariants.{Bad, NoFeature, NamingCycle, Memory}
 use Rattle.reg_rows.proofs.OrderLemmas.{same-fault}
 
 -- two first faults are one

@@ -8,11 +8,10 @@ use Rattle.std.proofs.lemmas.List.Sums.{count_by-le-length, length-filter}
 use Rattle.std.proofs.lemmas.Option.{slice_get_read}
 use Rattle.reg_forms.specs.declared.forms.Forms.{Forms}
 use Rattle.reg_forms.specs.declared.forms.OptionForm.{OptionForm}
-use Rattle.reg_rows.specs.Bits.{Atom, Readings, bits_of}
-use Rattle.reg_rows.specs.Found.{atom_of}
+use Rattle.reg_tables.specs.Bits.{Atom, Readings, atom_of, bits_of}
+use Rattle.reg_tables.specs.Tables.{extensions_in, features_in}
+use Rattle.reg_tables.specs.declared.bits.Bit.{Bit}
 use Rattle.reg_rows.specs.Rows.{option_names, option_place}
-use Rattle.reg_rows.specs.Tables.{extensions_in, features_in}
-use Rattle.reg_rows.specs.declared.bits.Bit.{Bit}
 
 -- std's word on `is_none`
 pub none_is : {A : Type 0} (o : Option A) (b : Bool) → is_some o ≡ not b → is_none o ≡ b

@@ -15,12 +15,11 @@ use Rattle.reg_forms.specs.declared.forms.EnumForm.{EnumForm}
 use Rattle.reg_forms.specs.declared.forms.Forms.{Forms}
 use Rattle.reg_forms.specs.declared.forms.Given.{Given}
 use Rattle.reg_forms.specs.declared.forms.Given.TheVariants as given
-use Rattle.reg_rows.specs.Found.{AreValues}
+use Rattle.reg_tables.specs.Lists.{firsts, is_among}
+use Rattle.reg_tables.specs.Tables.{declaration_of}
+use Rattle.reg_tables.specs.Values.{AreValues, alias_in, last_of, number_of, value_of}
 use Rattle.reg_rows.specs.Listing.{AreByType, enum_place}
-use Rattle.reg_rows.specs.Lists.{firsts, is_among}
 use Rattle.reg_rows.specs.Rows.{declared_in, row_of}
-use Rattle.reg_rows.specs.Tables.{declaration_of}
-use Rattle.reg_rows.specs.Values.{alias_in, last_of, number_of, value_of}
 use Rattle.reg_rows.proofs.FirstRowsLemmas.{first-at, firsts-push, firsts-there}
 use Rattle.reg_rows.proofs.ListingLemmas.{within_by}
 use Rattle.reg_rows.proofs.PlaceLemmas.{place_of-within, position-names}

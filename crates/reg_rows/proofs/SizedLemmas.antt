@@ -10,7 +10,7 @@ use Rattle.vkb_formula.specs.declared.formula.Formula.{Formula, Formula-F, fold-
 use Rattle.vkb_formula.specs.declared.formula.Formula.TheVariants.{Always, Never, Var, All as Conjunction, Any as Disjunction, rolls-All, rolls-Any, rolls-Never, rolls-Var}
 use Rattle.reg_registry.specs.Depends.{IsDepends, node_words, words_of}
 use Rattle.reg_forms.specs.declared.forms.DependsText.{DependsText}
-use Rattle.reg_rows.specs.Bits.{Readings}
+use Rattle.reg_tables.specs.Bits.{Readings}
 use Rattle.reg_rows.specs.Rows.{formula_at, formula_in}
 
 module _ (step : Formula-F ℕ → ℕ) where

@@ -23,12 +23,14 @@ use Rattle.reg_forms.specs.declared.forms.Forms.{Forms}
 use Rattle.reg_forms.specs.declared.forms.OptionForm.{OptionForm}
 use Rattle.reg_forms.specs.declared.forms.RowCode.{RowCode}
 use Rattle.reg_forms.specs.declared.forms.RowCode.TheVariants.{DuplicateName, NameLimit}
-use Rattle.reg_rows.specs.Answer.{IsAccepted, IsReadAs}
-use Rattle.reg_rows.specs.Bits.{Atom, Readings, atoms_in, bits_of, is_bit, is_member_name, options_of}
-use Rattle.reg_rows.specs.Faults.{bad_text, declared_besides, declared_twice, duplicates_in, fault_if, grouped_twice, limits_in, of_two_types, offered_twice, past_limit, unknowns_in, wrong_values_in}
-use Rattle.reg_rows.specs.Lists.{firsts, is_among}
+use Rattle.reg_tables.specs.Bits.{Atom, Readings, atoms_in, bits_of, is_bit, is_member_name, options_of}
+use Rattle.reg_tables.specs.Lists.{firsts, is_among}
+use Rattle.reg_tables.specs.Tables.{extensions_in, features_in}
+use Rattle.reg_tables.specs.Words.{IsReadAs}
+use Rattle.reg_tables.specs.Wrong.{bad_text, fault_if, limits_in, past_limit, wrong_values_in}
+use Rattle.reg_rows.specs.Answer.{IsAccepted}
+use Rattle.reg_rows.specs.Faults.{declared_besides, declared_twice, duplicates_in, grouped_twice, of_two_types, offered_twice, unknowns_in}
 use Rattle.reg_rows.specs.Rows.{declared_in, names_in, option_names}
-use Rattle.reg_rows.specs.Tables.{extensions_in, features_in}
 use Rattle.reg_rows.proofs.ApartLemmas.{Apart, AreNew, all-among, all-firsts, apart-append, apart-filter, apart-tests, firsts-all, firsts-apart, firsts-map, new-cons}
 use Rattle.reg_rows.proofs.ListLemmas.{all-flat_map, nil-parts}
 

@@ -16,10 +16,11 @@ use Rattle.reg_forms.specs.declared.forms.Declaration.{Declaration}
 use Rattle.reg_forms.specs.declared.forms.EntryForm.{EntryForm}
 use Rattle.reg_forms.specs.declared.forms.Forms.{Forms}
 use Rattle.reg_forms.specs.declared.forms.OptionForm.{OptionForm}
-use Rattle.reg_rows.specs.Bits.{Atom, Readings, bits_of, has_member, is_bit, is_member_name, is_struct_kind, last_declared, member_in, options_of, owner_in}
-use Rattle.reg_rows.specs.Lists.{each_number, firsts}
+use Rattle.reg_tables.specs.Bits.{Atom, Readings, bits_of, has_member, is_bit, is_member_name, is_struct_kind, last_declared, member_in, options_of, owner_in}
+use Rattle.reg_tables.specs.Lists.{firsts}
+use Rattle.reg_tables.specs.Tables.{declaration_of, extensions_in, features_in}
+use Rattle.reg_rows.specs.Lists.{each_number}
 use Rattle.reg_rows.specs.Rows.{bit_row, block_row, block_rows, listed_at, names_in, option_names, option_place, option_row, option_rows_of}
-use Rattle.reg_rows.specs.Tables.{declaration_of, extensions_in, features_in}
 use Rattle.reg_rows.proofs.ListLemmas.{all-filter_map, fewer-before, length-filter-le, length-filter_map, length-numbers}
 use Rattle.reg_rows.proofs.OnceLemmas.{ids-once}
 use Rattle.reg_rows.proofs.SizedLemmas.{formula-depends}

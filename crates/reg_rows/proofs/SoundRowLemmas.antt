@@ -16,10 +16,11 @@ use Rattle.reg_forms.specs.declared.forms.Declaration.{Declaration}
 use Rattle.reg_forms.specs.declared.forms.EnumForm.{EnumForm}
 use Rattle.reg_forms.specs.declared.forms.Forms.{Forms}
 use Rattle.reg_forms.specs.declared.forms.MemberForm.{MemberForm}
-use Rattle.reg_rows.specs.Lists.{each_number, firsts}
+use Rattle.reg_tables.specs.Lists.{firsts}
+use Rattle.reg_tables.specs.Tables.{enumerant_of, is_mask64, shape_of}
+use Rattle.reg_tables.specs.Values.{alias_of, last_in, last_of, next_of, within}
+use Rattle.reg_rows.specs.Lists.{each_number}
 use Rattle.reg_rows.specs.Rows.{blocks_with, declared_in, enumerant_row, lists_value, member_row, mentioned, named_of, names_in, row_of, values_of}
-use Rattle.reg_rows.specs.Tables.{enumerant_of, is_mask64, shape_of}
-use Rattle.reg_rows.specs.Values.{alias_of, last_in, last_of, next_of, within}
 use Rattle.reg_rows.proofs.ApartLemmas.{all-firsts, length-firsts}
 use Rattle.reg_rows.proofs.ListLemmas.{all-filter_map, all-numbers, length-filter-le, length-filter_map, length-numbers}
 use Rattle.reg_rows.proofs.OnceLemmas.{ids-once}

@@ -5,8 +5,8 @@ use Rattle.std.specs.Str.{bytes_eq}
 use Rattle.std.specs.Cmp.Lexicographic.{bytes_decides}
 use Rattle.std.proofs.lemmas.List.{at_drop_all, at_drop_more, length_push}
 use Rattle.vkb_formula.specs.Names.{AreDifferent, place_of, with_name}
+use Rattle.reg_tables.specs.Lists.{firsts, firsts_behind, is_among}
 use Rattle.reg_rows.specs.BuiltParts.{with_names}
-use Rattle.reg_rows.specs.Lists.{firsts, firsts_behind, is_among}
 use Rattle.reg_rows.proofs.PlaceLemmas.{place_of-push, place_of-within, slice_get-front, slice_get-seam}
 
 -- a table with the names that were seen, after one more

@@ -11,7 +11,7 @@ use Rattle.vkb_formula.specs.declared.formula.Formula.TheVariants.{Always, Never
 use Rattle.vkb_formula.specs.declared.name_table.NameId.{NameId}
 use Rattle.reg_registry.specs.Rows.{id_at, id_of}
 use Rattle.reg_forms.specs.declared.forms.DependsText.{DependsText}
-use Rattle.reg_rows.specs.Bits.{Readings}
+use Rattle.reg_tables.specs.Bits.{Readings}
 use Rattle.reg_rows.specs.Lists.{each_number}
 use Rattle.reg_rows.specs.Rows.{formula_at, formula_in, id_of_known}
 use Rattle.reg_rows.proofs.ListLemmas.{all-numbers}

@@ -1,27 +1,17 @@
 -- What is answered for a registry, by what its elements come to.
-use Rattle.std.specs.Prelude.{◌≡◌, ◌≢◌, ℕ, List, [], map, Option, Some, None, Result, Ok, Err, All, ⊤}
-use Rattle.vkb_formula.specs.Expressions.{Expression, IsNoExpression, Spells}
+use Rattle.std.specs.Prelude.{◌≡◌, ◌≢◌, ℕ, [], Result, Ok, Err, ⊤}
 use Rattle.reg_registry.specs.Naming.{IsNamingCycle, IsOnCircle}
 use Rattle.reg_registry.specs.Rows.{Rows}
 use Rattle.reg_forms.specs.declared.forms.Forms.{Forms}
-use Rattle.reg_rows.specs.Bits.{Readings}
+use Rattle.reg_tables.specs.Bits.{Readings}
+use Rattle.reg_tables.specs.Tables.{features_in}
+use Rattle.reg_tables.specs.Words.{AreReadings}
 use Rattle.reg_rows.specs.Faults.{IsFirst, faults_of}
 use Rattle.reg_rows.specs.Rows.{rows_of}
-use Rattle.reg_rows.specs.Tables.{features_in}
+use Rattle.reg_rows.specs.declared.fault.RowFault.TheVariants.{Bad, Memory, NamingCycle, NoFeature}
 use Rattle.reg_rows.specs.declared.fault.RowFault.{RowFault}
-use Rattle.reg_rows.specs.declared.fault.RowFault.TheVariants.{Bad, NoFeature, NamingCycle, Memory}
 
--- the text is this expression, or none
-abbrev pub IsReadAs : List ℕ → Option Expression → Type 0
-IsReadAs text (Some e) = Spells e text
-IsReadAs text None = IsNoExpression text
-
--- the `depends` texts are read so
-pub record AreReadings (f : Forms) (readings : Readings) : Type 0 where
-  pub texts : map (λ reading. reading.0) readings ≡ f.texts
-  pub each : All (λ reading. IsReadAs reading.0.text reading.1) readings
-
--- there is one way to read them
+-- there is one way to read the `depends` texts
 abbrev pub AreReadOnce : Forms → Type 0
 AreReadOnce f = (readings other : Readings) → AreReadings f readings → AreReadings f other → other ≡ readings
 

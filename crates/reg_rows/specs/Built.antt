@@ -5,11 +5,10 @@ use Rattle.std.specs.Str.{bytes_eq}
 use Rattle.reg_forms.specs.declared.forms.EnumForm.{EnumForm}
 use Rattle.reg_forms.specs.declared.forms.Forms.{Forms}
 use Rattle.vkb_formula.specs.Names.{AreDifferent, most_names}
-use Rattle.reg_rows.specs.Answer.{AreReadings}
-use Rattle.reg_rows.specs.Bits.{Readings, bits_of}
-use Rattle.reg_rows.specs.Found.{atom_of}
+use Rattle.reg_tables.specs.Bits.{Readings, atom_of, bits_of}
+use Rattle.reg_tables.specs.Words.{AreReadings}
+use Rattle.reg_tables.specs.declared.bits.Bit.{Bit}
 use Rattle.reg_rows.specs.Rows.{blocks_with, option_names}
-use Rattle.reg_rows.specs.declared.bits.Bit.{Bit}
 use Rattle.reg_rows.specs.declared.building.uses.Uses.{Uses}
 
 -- the row at a place is the first of its enumerant

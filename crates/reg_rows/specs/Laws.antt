@@ -5,8 +5,8 @@ use Rattle.reg_forms.specs.declared.forms.Forms.{Forms}
 use Rattle.reg_registry.specs.Laws.{AreWithin}
 use Rattle.reg_registry.specs.Rows.{Rows}
 use Rattle.reg_rows.specs.Answer.{IsAnswer}
+use Rattle.reg_rows.specs.declared.fault.RowFault.TheVariants.{Bad, Memory, NamingCycle, NoFeature}
 use Rattle.reg_rows.specs.declared.fault.RowFault.{RowFault}
-use Rattle.reg_rows.specs.declared.fault.RowFault.TheVariants.{Bad, NoFeature, NamingCycle, Memory}
 
 -- it isn't want of memory
 abbrev pub IsTold : Result Rows RowFault → Type 0

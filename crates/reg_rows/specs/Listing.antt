@@ -14,10 +14,11 @@ use Rattle.reg_forms.specs.declared.forms.EntryForm.{EntryForm}
 use Rattle.reg_forms.specs.declared.forms.EnumForm.{EnumForm}
 use Rattle.reg_forms.specs.declared.forms.Forms.{Forms}
 use Rattle.reg_forms.specs.declared.forms.Sort.TheVariants as sort
+use Rattle.reg_tables.specs.Lists.{firsts}
+use Rattle.reg_tables.specs.Tables.{declaration_of, is_mask64, is_sort}
 use Rattle.reg_rows.specs.Built.{IsFirstRow}
-use Rattle.reg_rows.specs.Lists.{each_number, firsts}
+use Rattle.reg_rows.specs.Lists.{each_number}
 use Rattle.reg_rows.specs.Rows.{declared_in, enumerant_row, lists_value}
-use Rattle.reg_rows.specs.Tables.{declaration_of, is_mask64, is_sort}
 
 -- a row of each enumerant, among these rows, stands in the block of its type
 abbrev pub AreAlways : Forms → List EnumForm → List Bool → Type 0

@@ -23,10 +23,11 @@ use Rattle.reg_forms.specs.declared.forms.Forms.{Forms}
 use Rattle.reg_forms.specs.declared.forms.MemberForm.{MemberForm}
 use Rattle.reg_forms.specs.declared.forms.OptionForm.{OptionForm}
 use Rattle.reg_forms.specs.declared.forms.Sort.TheVariants as sort
-use Rattle.reg_rows.specs.Bits.{Atom, Readings, bits_of, member_in, options_of, owner_in}
-use Rattle.reg_rows.specs.Lists.{each_number, firsts}
-use Rattle.reg_rows.specs.Tables.{extensions_in, features_in, is_mask64, is_sort, shape_of}
-use Rattle.reg_rows.specs.Values.{alias_of, last_of, value_of}
+use Rattle.reg_tables.specs.Bits.{Atom, Readings, bits_of, member_in, options_of, owner_in}
+use Rattle.reg_tables.specs.Lists.{firsts}
+use Rattle.reg_tables.specs.Tables.{extensions_in, features_in, is_mask64, is_sort, shape_of}
+use Rattle.reg_tables.specs.Values.{alias_of, last_of, value_of}
+use Rattle.reg_rows.specs.Lists.{each_number}
 
 -- The same where there is one: in a registry without faults there is.
 abbrev pub id_of_known : List (List ℕ) → List ℕ → NameId

@@ -2,9 +2,10 @@
 ghost use Rattle.std.specs.Prelude.{◌≡◌, ◌<◌, All, IfOk, Some, length, map, slice_get};
 ghost use Rattle.reg_registry.specs.Naming.{most_bytes};
 ghost use Rattle.reg_forms.specs.Sizes.{AreSmall};
-ghost use Rattle.reg_rows.specs.Answer.{AreReadOnce, AreReadings, IsAccepted, IsAnswer};
-ghost use Rattle.reg_rows.specs.Bits.{Readings, bits_of};
-ghost use Rattle.reg_rows.specs.Found.{AreValues, atom_of};
+ghost use Rattle.reg_tables.specs.Bits.{Readings, atom_of, bits_of};
+ghost use Rattle.reg_tables.specs.Values.{AreValues};
+ghost use Rattle.reg_tables.specs.Words.{AreReadings};
+ghost use Rattle.reg_rows.specs.Answer.{AreReadOnce, IsAccepted, IsAnswer};
 
 mod bit_parts;
 mod blocks;
@@ -14,15 +15,13 @@ mod options;
 mod uses;
 mod values;
 
-use crate::bits::Bit;
 use crate::fault::RowFault;
-use crate::tables::Tables;
-use crate::values::Values;
 use blocks::blocks;
 use declared::declared_rows;
 use names::{declared_names, option_names};
 use options::option_rows;
 use reg_registry::{Registry, first_circle};
+use reg_tables::{Bit, Tables, Values};
 use std::alloc::Global;
 use vkb_bytes::{Bytes, Listed, Memory};
 use vkb_formula::{NameId, NameTable};

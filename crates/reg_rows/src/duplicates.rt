@@ -1,13 +1,12 @@
 //! Names that stand twice.
 ghost use Rattle.std.specs.Prelude.{◌≡◌, ◌++◌, ◌&&◌, [], IfOk};
 ghost use Rattle.std.specs.List.{flat_map};
+ghost use Rattle.reg_tables.specs.Tables.{is_constant};
 ghost use Rattle.reg_rows.specs.Faults.{declared_besides, declared_twice, duplicates_in, grouped_twice, of_two_types, offered_twice};
-ghost use Rattle.reg_rows.specs.Tables.{is_constant};
 
-use crate::faults::put_fault;
-use crate::tables::Tables;
 use reg_forms::{Declaration, EnumForm, Fault, GroupForm, OptionForm, RowCode};
 use reg_registry::Kind;
+use reg_tables::{Tables, put_fault};
 use std::alloc::Global;
 use vkb_bytes::Memory;
 use vkb_formula::Names;

@@ -14,9 +14,10 @@
 //! let name = registry.names().find(b"VkA");
 //! ```
 //!
-//! What an element says by itself is read by `reg_forms`. Here tables of names are filled (`tables`), the faults are put together, one
-//! function for each rule (`duplicates`, `unknowns`, `values`, `bits`, `limits`), and where there is none, the rows are built (`building`).
-//! The `Registry` that keeps them, and the search for names that are a circle, are those of `reg_registry`.
+//! What an element says by itself is read by `reg_forms`, and what is found under a name, and has which value, by `reg_tables`. Here the
+//! faults are put together, one function for each rule (`duplicates`, `unknowns`, and the rules of `reg_tables`), the first of them is
+//! told (`order`), and where there is none, the rows are built (`building`). The `Registry` that keeps them, and the search for names that
+//! are a circle, are those of `reg_registry`.
 #![tactic(auto)]
 
 ghost use Rattle.std.specs.Prelude.{◌≡◌, ◌≤◌, [], IfOk, is_some, length, map, MatchOption};
@@ -27,39 +28,34 @@ ghost use Rattle.reg_reader.specs.Shown.{IsElementOf};
 ghost use Rattle.reg_reader.specs.Views.{Element};
 ghost use Rattle.reg_forms.specs.Forms.{forms_of};
 ghost use Rattle.reg_forms.specs.Sizes.{AreSmall};
-ghost use Rattle.reg_rows.specs.Answer.{AreReadings, IsAnswer};
-ghost use Rattle.reg_rows.specs.Bits.{Readings, bits_of};
+ghost use Rattle.reg_tables.specs.Bits.{Readings, atom_of, bits_of};
+ghost use Rattle.reg_tables.specs.Values.{AreValues};
+ghost use Rattle.reg_tables.specs.Words.{AreReadings, AreWords};
+ghost use Rattle.reg_rows.specs.Answer.{IsAnswer};
 ghost use Rattle.reg_rows.specs.Faults.{IsFirst, faults_of};
-ghost use Rattle.reg_rows.specs.Found.{AreValues, AreWords, atom_of};
 
-mod bits;
 mod building;
-mod chains;
-mod counted;
 mod duplicates;
 mod fault;
-mod faults;
 mod laws;
-mod limits;
-mod members;
-mod places;
-mod tables;
+mod order;
 mod unknowns;
-mod values;
 
-use crate::bits::{Bit, bits, put_bad_texts, words};
 use crate::building::build;
 use crate::duplicates::put_duplicates;
-use crate::limits::{first_of, put_limits};
-use crate::tables::Tables;
+use crate::order::first_of;
 use crate::unknowns::put_unknowns;
-use crate::values::{Values, put_wrong_values};
 pub use fault::RowFault;
-pub use laws::{answers_are_one, each_registry_is_answered, rows_are_within};
+pub use laws::{
+    answers_are_one, each_registry_is_answered, only_commands_name_commands, rows_are_within,
+};
 pub use reg_forms::RowCode;
 use reg_forms::{Fault, Forms, OptionForm, read_forms};
 use reg_reader::{Element, Node};
 use reg_registry::Registry;
+use reg_tables::{
+    Bit, Tables, Values, find_bits, put_bad_texts, put_limits, put_wrong_values, words,
+};
 use std::alloc::Global;
 pub use vkb_bytes::Memory;
 use vkb_bytes::{Bytes, Listed};
@@ -101,7 +97,7 @@ fn judge(alloc: Global, tables: &Tables, values: &Values) -> Result<Registry, Ro
     ensures { IsAnswer tables.now result }
 {
     let places = words(alloc, tables.forms())?;
-    let members = bits(alloc, tables, &places)?;
+    let members = find_bits(alloc, tables, &places)?;
     answer(alloc, tables, values, &places, &members)
 }
 

@@ -2,14 +2,13 @@
 ghost use Rattle.std.specs.Prelude.{◌≡◌, ◌++◌, IfOk, is_some};
 ghost use Rattle.std.specs.List.{flat_map};
 ghost use Rattle.std.specs.Option.{option_and_then};
+ghost use Rattle.reg_tables.specs.Tables.{enumerant_of, is_mask64};
+ghost use Rattle.reg_tables.specs.Values.{within};
 ghost use Rattle.reg_rows.specs.Faults.{unknown, unknown_alias, unknowns_in, without_flags};
-ghost use Rattle.reg_rows.specs.Tables.{enumerant_of, is_mask64};
-ghost use Rattle.reg_rows.specs.Values.{within};
 
-use crate::faults::put_fault;
-use crate::tables::Tables;
 use reg_forms::{Declaration, EntryForm, EnumForm, Fault, Given, Mention, RowCode, Sort};
 use reg_registry::Shape;
+use reg_tables::{Tables, put_fault};
 use std::alloc::Global;
 use vkb_bytes::Memory;
 

@@ -5,7 +5,7 @@ use Rattle.reg_forms.specs.declared.forms.Forms.{Forms}
 use Rattle.reg_forms.specs.declared.forms.OptionForm.{OptionForm}
 use Rattle.reg_rows.specs.Answer.{IsAnswer}
 use Rattle.reg_rows.specs.declared.fault.RowFault.{RowFault}
-use Rattle.reg_rows.proofs.AcceptLemmas.{accepted, told, without-features, read-once}
+use Rattle.reg_rows.proofs.AcceptLemmas.{accepted, read-once, told, without-features}
 use Rattle.reg_rows.proofs.answer.Goals as goal
 
 pub returns-in-Some : goal.returns-in-Some

@@ -3,9 +3,9 @@ use Rattle.std.specs.List.{flat_map}
 use Rattle.std.specs.Option.{MatchOption}
 use Rattle.reg_forms.specs.declared.forms.Fault.{Fault}
 use Rattle.reg_forms.specs.declared.forms.Forms.{Forms}
-use Rattle.reg_rows.specs.Answer.{AreReadings}
-use Rattle.reg_rows.specs.Faults.{IsFirst, bad_text, duplicates_in, limits_in, unknowns_in, wrong_values_in}
-use Rattle.reg_rows.specs.Found.{AreWords}
+use Rattle.reg_tables.specs.Words.{AreReadings, AreWords}
+use Rattle.reg_tables.specs.Wrong.{bad_text, limits_in, wrong_values_in}
+use Rattle.reg_rows.specs.Faults.{IsFirst, duplicates_in, unknowns_in}
 use Rattle.reg_rows.proofs.first_fault.Goals as goal
 
 pub put_bad_texts-requires : goal.put_bad_texts-requires

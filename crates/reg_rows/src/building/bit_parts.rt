@@ -1,6 +1,6 @@
 //! The parts of a bit's name.
 ghost use Rattle.std.specs.Prelude.{◌≡◌, ◌≤◌, length};
-ghost use Rattle.reg_rows.specs.Bits.{member_in, owner_in};
+ghost use Rattle.reg_tables.specs.Bits.{member_in, owner_in};
 
 /// The name of the struct, before the first `:`, and that of the member, behind the one after it.
 pub(crate) fn bit_parts(name: &[u8]) -> (&[u8], &[u8])

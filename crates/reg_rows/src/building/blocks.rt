@@ -2,16 +2,16 @@
 ghost use Rattle.std.specs.Prelude.{◌≡◌, ◌<◌, ◌≤◌, ◌^◌, ◌++◌, ◌∷◌, [], All, IfOk, length, map, replicate, slice_index_or, slice_set, if◌then◌else◌, Some, None};
 ghost use Rattle.reg_registry.specs.Naming.{most_bytes};
 ghost use Rattle.reg_forms.specs.Sizes.{AreSmall, NeverFall};
-ghost use Rattle.reg_rows.specs.Answer.{AreReadings};
-ghost use Rattle.reg_rows.specs.Bits.{Readings};
+ghost use Rattle.reg_tables.specs.Bits.{Readings};
+ghost use Rattle.reg_tables.specs.Tables.{features_in};
+ghost use Rattle.reg_tables.specs.Words.{AreReadings};
 ghost use Rattle.reg_rows.specs.BuiltParts.{AreLists, ArePlaces, is_mark};
 ghost use Rattle.reg_rows.specs.Rows.{block_rows, formula_at, names_in, option_names};
-ghost use Rattle.reg_rows.specs.Tables.{features_in};
 
 use super::options::formula_at;
-use crate::tables::Tables;
 use reg_forms::{BlockForm, Forms};
 use reg_registry::Block;
+use reg_tables::Tables;
 use std::alloc::Global;
 use vkb_bytes::{Listed, Memory};
 use vkb_formula::{NameId, NameTable};

@@ -1,17 +1,16 @@
 //! The tables of declared names and of options.
 ghost use Rattle.std.specs.Prelude.{◌≡◌, ◌≤◌, IfOk, length, map};
 ghost use Rattle.vkb_formula.specs.Names.{most_names};
-ghost use Rattle.reg_rows.specs.Answer.{AreReadings};
-ghost use Rattle.reg_rows.specs.Bits.{Readings};
+ghost use Rattle.reg_tables.specs.Bits.{Readings};
+ghost use Rattle.reg_tables.specs.Tables.{extensions_in, features_in};
+ghost use Rattle.reg_tables.specs.Words.{AreReadings};
 ghost use Rattle.reg_rows.specs.Built.{AreOptions};
 ghost use Rattle.reg_rows.specs.BuiltParts.{with_names};
 ghost use Rattle.reg_rows.specs.Rows.{names_in, option_names};
-ghost use Rattle.reg_rows.specs.Tables.{extensions_in, features_in};
 
-use crate::bits::Bit;
-use crate::tables::Tables;
 use reg_forms::Forms;
 use reg_registry::put_name;
+use reg_tables::{Bit, Tables};
 use std::alloc::Global;
 use vkb_bytes::Memory;
 use vkb_formula::NameTable;

@@ -2,18 +2,16 @@
 ghost use Rattle.std.specs.Prelude.{◌≡◌, ◌<◌, ◌^◌, ◌++◌, All, IfOk, length, map};
 ghost use Rattle.reg_registry.specs.Naming.{most_bytes};
 ghost use Rattle.reg_forms.specs.Sizes.{AreSmall};
-ghost use Rattle.reg_rows.specs.Answer.{AreReadings};
-ghost use Rattle.reg_rows.specs.Bits.{Readings};
+ghost use Rattle.reg_tables.specs.Bits.{Readings, atom_of};
+ghost use Rattle.reg_tables.specs.Tables.{extensions_in, features_in};
+ghost use Rattle.reg_tables.specs.Words.{AreReadings};
 ghost use Rattle.reg_rows.specs.Built.{AreOptions};
-ghost use Rattle.reg_rows.specs.Found.{atom_of};
 ghost use Rattle.reg_rows.specs.Rows.{bit_row, formula_at, names_in, option_names, option_row, option_rows_of};
-ghost use Rattle.reg_rows.specs.Tables.{extensions_in, features_in};
 
 use super::bit_parts::bit_parts;
-use crate::bits::Bit;
-use crate::tables::Tables;
 use reg_forms::{Forms, OptionForm};
 use reg_registry::OptionRow;
+use reg_tables::{Bit, Tables};
 use std::alloc::Global;
 use vkb_bytes::{Bytes, Memory};
 use vkb_formula::{ExprFault, Formula, NameId, NameTable, read_depends};

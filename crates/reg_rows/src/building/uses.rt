@@ -5,8 +5,8 @@ ghost use Rattle.reg_forms.specs.Sizes.{AreSmall};
 ghost use Rattle.reg_rows.specs.Built.{AreUses};
 ghost use Rattle.reg_rows.specs.Listing.{AreAlways, AreLists, is_end, value_place};
 
-use crate::tables::Tables;
 use reg_forms::{EntryForm, Sort};
+use reg_tables::Tables;
 use std::alloc::Global;
 use vkb_bytes::Memory;
 

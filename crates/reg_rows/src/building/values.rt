@@ -4,17 +4,15 @@ ghost use Rattle.std.specs.Option.{option_and_then, option_flatten, option_map_o
 ghost use Rattle.reg_registry.specs.Naming.{most_bytes};
 ghost use Rattle.reg_forms.specs.Declarations.{is_enum_row};
 ghost use Rattle.reg_forms.specs.Sizes.{AreSmall};
+ghost use Rattle.reg_tables.specs.Values.{AreValues, alias_of, last_of};
 ghost use Rattle.reg_rows.specs.Built.{AreUses, IsFirstRow};
-ghost use Rattle.reg_rows.specs.Found.{AreValues};
 ghost use Rattle.reg_rows.specs.Listing.{AreByType, enum_place};
 ghost use Rattle.reg_rows.specs.Rows.{enumerant_row, names_in};
-ghost use Rattle.reg_rows.specs.Values.{alias_of, last_of};
 
 use super::uses::{Uses, empty_lists, find_uses};
-use crate::tables::Tables;
-use crate::values::Values;
 use reg_forms::{Declaration, EnumForm, Given};
 use reg_registry::{Enumerant, Kind};
+use reg_tables::{Tables, Values};
 use std::alloc::Global;
 use vkb_bytes::{Bytes, Listed, Memory};
 use vkb_formula::NameTable;

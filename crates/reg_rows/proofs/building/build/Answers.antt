@@ -1,8 +1,8 @@
 use Rattle.std.proofs.Common.{◌<◌, All, List, Some, length, map, slice_get, ◌≡◌, sym, subst, ap, ◌∙◌, ℕ}
 use Rattle.reg_registry.specs.Naming.{AreSound, IsOnCircle}
 use Rattle.reg_registry.specs.declared.registry.Row.{Row}
-use Rattle.reg_rows.proofs.AcceptedLemmas.{few-names, are-options, named-within, are-sound}
-use Rattle.reg_rows.proofs.BuildLemmas.{parts-are, none-found, one-found, named-circle, found-within, rows-few}
+use Rattle.reg_rows.proofs.AcceptedLemmas.{are-options, are-sound, few-names, named-within}
+use Rattle.reg_rows.proofs.BuildLemmas.{found-within, named-circle, none-found, one-found, parts-are, rows-few}
 use Rattle.reg_forms.specs.declared.forms.Forms.{Forms}
 use Rattle.reg_rows.specs.Rows.{rows_of}
 use Rattle.reg_registry.specs.Rows.{Rows}

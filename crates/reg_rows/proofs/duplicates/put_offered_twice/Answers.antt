@@ -3,7 +3,8 @@ use Rattle.std.proofs.lemmas.Bool.{eq-eqb, ne_eqb}
 use Rattle.std.proofs.lemmas.List.{at_drop_more}
 use Rattle.vkb_formula.specs.Names.{with_name}
 use Rattle.reg_forms.specs.declared.forms.RowCode.TheVariants.{DuplicateName}
-use Rattle.reg_rows.specs.Faults.{fault_if, offered_twice}
+use Rattle.reg_tables.specs.Wrong.{fault_if}
+use Rattle.reg_rows.specs.Faults.{offered_twice}
 use Rattle.reg_rows.proofs.OfferLemmas.{offered-known, offered-new}
 use Rattle.reg_rows.proofs.duplicates.put_offered_twice.Goals as goal
 use Rattle.reg_rows.proofs.duplicates.put_offered_twice.Goals.{then-len-before+in_ok-put_fault, else-len-before}

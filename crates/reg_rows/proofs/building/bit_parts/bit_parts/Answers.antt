@@ -1,6 +1,6 @@
 use Rattle.std.proofs.Common.{◌≡◌, ◌≤◌, ◌+◌, ◌-◌, ◌==◌, min, ℕ, Bool, true, false, cond, List, [], ◌∷◌, length, take, drop, refl, ap, ◌∙◌, arith}
 use Rattle.std.proofs.lemmas.List.{drop-drop, drop_min, take_rest}
-use Rattle.reg_rows.specs.Bits.{owner_in}
+use Rattle.reg_tables.specs.Bits.{owner_in}
 use Rattle.reg_rows.proofs.building.bit_parts.bit_parts.Goals as goal
 
 front_by : (b : Bool) (byte : ℕ) (rest : List ℕ) → take (length (owner_in rest)) rest ≡ owner_in rest → take (length (cond b [] (byte ∷ owner_in rest))) (byte ∷ rest) ≡ cond b [] (byte ∷ owner_in rest)

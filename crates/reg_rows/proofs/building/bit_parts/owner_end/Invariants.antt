@@ -1,5 +1,5 @@
 use Rattle.std.proofs.Common.{◌≡◌, ◌+◌, drop, length}
-use Rattle.reg_rows.specs.Bits.{owner_in}
+use Rattle.reg_tables.specs.Bits.{owner_in}
 use Rattle.reg_rows.proofs.building.bit_parts.owner_end.Given as goal
 
 abbrev pub invariant-loop-place : goal.invariant-loop-place

@@ -1,6 +1,6 @@
 use Rattle.std.proofs.Common.{◌≡◌, ℕ, ◌<◌, ◌≤◌, ◌++◌, [], drop, get_or, length, map}
-use Rattle.reg_rows.specs.Answer.{AreReadings}
-use Rattle.reg_rows.specs.Bits.{Readings}
+use Rattle.reg_tables.specs.Bits.{Readings}
+use Rattle.reg_tables.specs.Words.{AreReadings}
 use Rattle.reg_rows.specs.Rows.{block_rows, listed_at}
 use Rattle.reg_rows.proofs.building.blocks.blocks.Given as goal
 

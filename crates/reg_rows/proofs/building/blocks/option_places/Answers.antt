@@ -1,7 +1,7 @@
 use Rattle.std.proofs.Common.{◌≡◌, ◌+◌, true, false, is_none, is_some, length, sym, ap, ◌∙◌, arith}
 use Rattle.std.proofs.lemmas.List.{length_push}
 use Rattle.std.proofs.lemmas.List.Sums.{count_by-le-length, length-filter}
-use Rattle.reg_rows.specs.Tables.{features_in}
+use Rattle.reg_tables.specs.Tables.{features_in}
 use Rattle.reg_rows.proofs.OptionLemmas.{as-many, few_pass, none_is, one-more, place-more}
 use Rattle.reg_rows.proofs.building.blocks.option_places.Goals as goal
 use Rattle.reg_rows.proofs.building.blocks.option_places.Goals.{then-is_some+in_ok-push, else-is_some+in_ok-push-2}

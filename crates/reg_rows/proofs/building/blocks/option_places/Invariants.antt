@@ -1,6 +1,6 @@
 use Rattle.std.proofs.Common.{◌≡◌, ℕ, ◌+◌, ◌<◌, filter, get_or, is_none, is_some, length, take}
+use Rattle.reg_tables.specs.Tables.{features_in}
 use Rattle.reg_rows.specs.Rows.{option_place}
-use Rattle.reg_rows.specs.Tables.{features_in}
 use Rattle.reg_rows.proofs.building.blocks.option_places.Given as goal
 
 abbrev pub invariant-loop-option : goal.invariant-loop-option

@@ -1,6 +1,6 @@
 use Rattle.std.proofs.Common.{◌≡◌, ◌+◌, length, map, take}
+use Rattle.reg_tables.specs.Lists.{firsts}
 use Rattle.reg_rows.specs.Listing.{AreBefore, AreByType}
-use Rattle.reg_rows.specs.Lists.{firsts}
 use Rattle.reg_rows.specs.Rows.{row_of}
 use Rattle.reg_rows.proofs.building.declared.declared_rows.Given as goal
 

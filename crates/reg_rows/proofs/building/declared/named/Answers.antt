@@ -2,9 +2,9 @@ use Rattle.std.proofs.Common.{◌≡◌, ◌<◌, ◌∷◌, ◌++◌, [], List,
 use Rattle.std.proofs.lemmas.List.{take_all}
 use Rattle.reg_registry.specs.Rows.{id_at}
 use Rattle.reg_forms.specs.declared.forms.Mention.{Mention}
+use Rattle.reg_tables.specs.Tables.{is_mask64}
 use Rattle.reg_rows.specs.Listing.{AreMarked, places_besides}
 use Rattle.reg_rows.specs.Lists.{each_number}
-use Rattle.reg_rows.specs.Tables.{is_mask64}
 use Rattle.reg_rows.proofs.ListingLemmas.{besides-append, besides-more}
 use Rattle.reg_rows.proofs.building.declared.named.Goals as goal
 use Rattle.reg_rows.proofs.building.declared.named.Goals.{then-is_mask64+in_ok-put_named-2, else-is_mask64}

@@ -1,10 +1,10 @@
 use Rattle.std.proofs.Common.{◌≡◌, ◌≤◌, List, ℕ, [], ◌++◌, length, map, refl, sym, subst, ap, ◌∙◌, arith}
 use Rattle.vkb_formula.specs.Names.{AreDifferent, most_names}
+use Rattle.reg_tables.specs.Tables.{extensions_in, features_in}
+use Rattle.reg_tables.specs.declared.bits.Bit.{Bit}
 use Rattle.reg_rows.specs.Built.{AreOptions}
 use Rattle.reg_rows.specs.BuiltParts.{with_names}
 use Rattle.reg_rows.specs.Rows.{option_names}
-use Rattle.reg_rows.specs.Tables.{extensions_in, features_in}
-use Rattle.reg_rows.specs.declared.bits.Bit.{Bit}
 use Rattle.reg_forms.specs.declared.forms.Forms.{Forms}
 use Rattle.reg_rows.proofs.OptionLemmas.{option_names-parts}
 use Rattle.reg_rows.proofs.WithNamesLemmas.{with_names-append, with_names-different, with_names-grow}

@@ -1,8 +1,8 @@
 use Rattle.std.proofs.Common.{◌+◌, ◌∷◌, cond, drop, filter, is_none, map, refl, sym, ap, ◌∙◌}
 use Rattle.vkb_formula.specs.Names.{most_names}
 use Rattle.reg_rows.specs.BuiltParts.{with_names}
-use Rattle.reg_rows.proofs.WithNamesLemmas.{put-last, put-next, room-next, skip-next}
 use Rattle.reg_rows.proofs.OptionLemmas.{none_is}
+use Rattle.reg_rows.proofs.WithNamesLemmas.{put-last, put-next, room-next, skip-next}
 use Rattle.reg_rows.proofs.building.names.put_extensions.Goals as goal
 use Rattle.reg_rows.proofs.building.names.put_extensions.Goals.{then-is_none+in_ok-put_name, else-is_none}
 

@@ -1,6 +1,6 @@
 use Rattle.std.proofs.Common.{◌≡◌, drop, filter, is_none, map}
+use Rattle.reg_tables.specs.Tables.{extensions_in}
 use Rattle.reg_rows.specs.BuiltParts.{with_names}
-use Rattle.reg_rows.specs.Tables.{extensions_in}
 use Rattle.reg_rows.proofs.building.names.put_extensions.Given as goal
 
 abbrev pub invariant-loop-option : goal.invariant-loop-option

@@ -1,6 +1,6 @@
 use Rattle.std.proofs.Common.{◌≡◌, drop, filter, is_some, map}
+use Rattle.reg_tables.specs.Tables.{features_in}
 use Rattle.reg_rows.specs.BuiltParts.{with_names}
-use Rattle.reg_rows.specs.Tables.{features_in}
 use Rattle.reg_rows.proofs.building.names.put_features.Given as goal
 
 abbrev pub invariant-loop-option : goal.invariant-loop-option

@@ -1,9 +1,9 @@
 use Rattle.std.proofs.Common.{◌≡◌, ◌++◌, [], List, map, sym, subst, ap, ◌∙◌}
 use Rattle.std.proofs.lemmas.List.{map-append}
-use Rattle.reg_rows.specs.Answer.{AreReadings}
-use Rattle.reg_rows.specs.Bits.{bits_of}
+use Rattle.reg_tables.specs.Bits.{bits_of}
+use Rattle.reg_tables.specs.Tables.{extensions_in, features_in}
+use Rattle.reg_tables.specs.Words.{AreReadings}
 use Rattle.reg_rows.specs.Rows.{bit_row, option_names, option_row}
-use Rattle.reg_rows.specs.Tables.{extensions_in, features_in}
 use Rattle.reg_rows.proofs.building.options.option_rows.Goals as goal
 
 -- what stands in the text, and behind it the bits

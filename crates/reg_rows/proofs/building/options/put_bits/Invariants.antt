@@ -1,5 +1,5 @@
 use Rattle.std.proofs.Common.{◌≡◌, ◌++◌, map, take}
-use Rattle.reg_rows.specs.Found.{atom_of}
+use Rattle.reg_tables.specs.Bits.{atom_of}
 use Rattle.reg_rows.specs.Rows.{bit_row}
 use Rattle.reg_rows.proofs.building.options.put_bits.Given as goal
 

@@ -1,6 +1,6 @@
 use Rattle.std.proofs.Common.{◌≡◌, ◌++◌, filter, is_some, map, take}
-use Rattle.reg_rows.specs.Answer.{AreReadings}
-use Rattle.reg_rows.specs.Bits.{Readings}
+use Rattle.reg_tables.specs.Bits.{Readings}
+use Rattle.reg_tables.specs.Words.{AreReadings}
 use Rattle.reg_rows.specs.Rows.{option_row}
 use Rattle.reg_rows.proofs.building.options.put_features.Given as goal
 

@@ -1,7 +1,7 @@
 use Rattle.std.proofs.Common.{◌≡◌, length, get_or, Some, None, slice_get, refl, sym, ap, ◌∙◌, arith}
 use Rattle.std.specs.Option.{option_and_then}
 use Rattle.std.proofs.lemmas.Option.{slice_get_read}
-use Rattle.reg_rows.specs.Values.{last_of}
+use Rattle.reg_tables.specs.Values.{last_of}
 use Rattle.reg_rows.proofs.RowLemmas.{end-is, last-found, last-within}
 use Rattle.reg_rows.proofs.building.values.end_of.Goals as goal
 

@@ -8,8 +8,8 @@ use Rattle.std.proofs.lemmas.Option.{slice_get_read}
 use Rattle.vkb_formula.specs.Names.{AreDifferent}
 use Rattle.reg_registry.specs.declared.registry.Enumerant.{Enumerant}
 use Rattle.reg_forms.specs.declared.forms.EnumForm.{EnumForm}
+use Rattle.reg_tables.specs.Lists.{is_among}
 use Rattle.reg_rows.specs.Listing.{AreByType, enum_place}
-use Rattle.reg_rows.specs.Lists.{is_among}
 use Rattle.reg_rows.specs.Rows.{declared_in, enumerant_row, names_in}
 use Rattle.reg_rows.proofs.ListingLemmas.{by_type-known, by_type-more, changed-at}
 use Rattle.reg_rows.proofs.RowLemmas.{among-is, at-is, enum-within}

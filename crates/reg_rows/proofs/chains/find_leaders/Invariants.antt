@@ -1,5 +1,0 @@
-use Rattle.reg_rows.specs.Chains.{AreLeaders}
-use Rattle.reg_rows.proofs.chains.find_leaders.Given as goal
-
-abbrev pub invariant-loop-place : goal.invariant-loop-place
-invariant-loop-place l = AreLeaders l.next l.place l.greatest.items l.smaller.items

@@ -1,6 +1,0 @@
-use Rattle.std.proofs.Common.{map, take}
-use Rattle.reg_rows.specs.Counts.{IsCounted}
-use Rattle.reg_rows.proofs.limits.put_enumerants.Given as goal
-
-abbrev pub invariant-loop-enumerant : goal.invariant-loop-enumerant
-invariant-loop-enumerant l = IsCounted (map (λ e. (e.place, e.name)) (take l.enumerant-index l.enumerants)) l.counted.names l.counted.past

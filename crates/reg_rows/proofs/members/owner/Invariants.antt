@@ -1,6 +1,0 @@
-use Rattle.std.proofs.Common.{◌≡◌, ◌++◌, take, drop}
-use Rattle.reg_rows.specs.Bits.{owner_in}
-use Rattle.reg_rows.proofs.members.owner.Given as goal
-
-abbrev pub invariant-loop-at : goal.invariant-loop-at
-invariant-loop-at l = take l.at l.name ++ owner_in (drop l.at l.name) ≡ owner_in l.name

@@ -1,6 +1,0 @@
-use Rattle.std.proofs.Common.{map, take}
-use Rattle.reg_rows.specs.TableContents.{AreOf}
-use Rattle.reg_rows.proofs.tables.declared_places.Given as goal
-
-abbrev pub invariant-loop-place : goal.invariant-loop-place
-invariant-loop-place l = AreOf l.table (map (λ d. d.name) (take l.place l.declarations))

@@ -1,7 +1,0 @@
-use Rattle.std.proofs.Common.{◌≡◌, ◌++◌, take}
-use Rattle.std.specs.List.{flat_map}
-use Rattle.reg_rows.specs.Faults.{endless}
-use Rattle.reg_rows.proofs.values.clashes.put_endless.Given as goal
-
-abbrev pub invariant-loop-place : goal.invariant-loop-place
-invariant-loop-place l = l.faults.items ≡ l.initial.faults.items ++ flat_map (endless l.tables) (take l.place l.rows)

@@ -1,0 +1,14 @@
+pub mod AtomLemmas
+pub mod BackLemmas
+pub mod BitLemmas
+pub mod CountLemmas
+pub mod EndLemmas
+pub mod FirstsLemmas
+pub mod LastLemmas
+pub mod LeaderLemmas
+pub mod PlaceLemmas
+pub mod PutLemmas
+pub mod ReachingLemmas
+pub mod ReadingLemmas
+pub mod TableLemmas
+pub mod ValueLemmas

@@ -1,0 +1,9 @@
+use Rattle.reg_tables.proofs.TableLemmas.{put-all, put-more}
+use Rattle.reg_tables.proofs.tables.group_places.Goals as goal
+
+pub loop-place-preserved : goal.loop-place-preserved
+loop-place-preserved c =
+    put-more (λ g. g.name) _ _ _ _ c.loop-place.invariant _ _ _ _ c.loop-place-test.true c.index-groups-place.is c.as_slice.ensures c.in_ok-put.ensures
+
+pub returns : goal.returns
+returns c = put-all (λ g. g.name) _ _ _ _ c.loop-place.invariant c.loop-place-test.false

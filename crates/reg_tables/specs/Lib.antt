@@ -1,0 +1,12 @@
+pub mod Aliases
+pub mod Bits
+pub mod Chains
+pub mod Counts
+pub mod Found
+pub mod Lists
+pub mod Places
+pub mod TableContents
+pub mod Tables
+pub mod Values
+pub mod Words
+pub mod Wrong
