@@ -9,10 +9,11 @@ use Rattle.doc_cond.specs.declared.LineKind.{LineKind}
 use Rattle.doc_cond.specs.declared.LineKind.TheVariants.{Plain, Comment, Other, Begin, OneLine, Close, Chapter, Api, Validity, Refpage}
 use Rattle.doc_tree.specs.Flat.{FlatLine, is_kept}
 use Rattle.reg_registry.specs.Rows.{Rows}
-use Rattle.doc_build.specs.Choices.{Choice, PageLine, names_set, registry_setting}
+use Rattle.doc_build.specs.Choices.{Choice, PageLine, names_set, pageless_setting}
 use Rattle.doc_build.specs.Ids.{filled, id_at, page_set}
 use Rattle.doc_build.specs.Laws.{SetsNoPage, is_kept_at}
-use Rattle.doc_build.specs.Pieces.{Anchor, Link, Piece, all_links, all_pieces, anchor_at, anchors_of, link_at, links_of, marks_in, page_piece, pieces_among, pieces_at, pieces_of}
+use Rattle.doc_build.specs.declared.Piece.{Piece}
+use Rattle.doc_build.specs.Pieces.{Anchor, Link, all_links, all_pieces, anchor_at, anchors_of, link_at, links_of, marks_in, page_piece, pieces_among, pieces_at, pieces_of}
 
 -- ---- lists
 
@@ -27,14 +28,14 @@ All-all P each [] = All-nil P
 All-all P each (x ∷ xs) = All-cons P x xs (each x) (All-all P each xs)
 
 -- a test that all pass leaves all
-filter-all : {X : Type 0} (test : X → Bool) (xs : List X) → All (λ x. test x ≡ true) xs → filter test xs ≡ xs
+pub filter-all : {X : Type 0} (test : X → Bool) (xs : List X) → All (λ x. test x ≡ true) xs → filter test xs ≡ xs
 filter-all test [] all = refl
 filter-all test (x ∷ xs) all =
     let first : test x ≡ true = All-head (λ y. test y ≡ true) x xs all in
     ap (λ b. cond b (x ∷ filter test xs) (filter test xs)) first ∙ ap (λ ys. x ∷ ys) (filter-all test xs (All-tail (λ y. test y ≡ true) x xs all))
 
 -- and one that none passes leaves none
-filter-none : {X : Type 0} (test : X → Bool) (xs : List X) → All (λ x. test x ≡ false) xs → filter test xs ≡ []
+pub filter-none : {X : Type 0} (test : X → Bool) (xs : List X) → All (λ x. test x ≡ false) xs → filter test xs ≡ []
 filter-none test [] all = refl
 filter-none test (x ∷ xs) all =
     let first : test x ≡ false = All-head (λ y. test y ≡ false) x xs all in
@@ -148,7 +149,7 @@ longer [] x = refl
 longer (y ∷ xs) x = omega (arith, longer xs x)
 
 -- each line is kept at its place as it is by itself
-kept_places : (set : List (List ℕ)) (kept : List Bool) (front : List Bool) (lines : List FlatLine) → kept ≡ front ++ map (is_kept set) lines
+pub kept_places : (set : List (List ℕ)) (kept : List Bool) (front : List Bool) (lines : List FlatLine) → kept ≡ front ++ map (is_kept set) lines
     → All (λ p. get_or kept p.0 false ≡ is_kept set p.1) (enumerate_from (length front) lines)
 kept_places set kept front [] is = All-nil (λ (p : ℕ × FlatLine). get_or kept p.0 false ≡ is_kept set p.1)
 kept_places set kept front (line ∷ lines) is =
@@ -158,29 +159,29 @@ kept_places set kept front (line ∷ lines) is =
     All-cons (λ (p : ℕ × FlatLine). get_or kept p.0 false ≡ is_kept set p.1) (length front, line) (enumerate_from (length front + 1) lines) here (rw (longer front (is_kept set line)) at rest)
 
 pub kept_anchors : (always : List (List ℕ)) (r : Rows) (lines : List FlatLine) (choice : Choice)
-    → anchors_of (pieces_of (registry_setting always r) lines choice)
-    ≡ filter (λ anchor. is_kept_at (names_set (registry_setting always r) choice) lines anchor.line) (anchors_of (all_pieces (registry_setting always r) lines))
+    → anchors_of (pieces_of (pageless_setting always r) lines choice)
+    ≡ filter (λ anchor. is_kept_at (names_set (pageless_setting always r) choice) lines anchor.line) (anchors_of (all_pieces (pageless_setting always r) lines))
 kept_anchors always r lines choice =
-    let set = names_set (registry_setting always r) choice in
+    let set = names_set (pageless_setting always r) choice in
     found_kept (λ mark. mark.anchor) anchor_at (λ a. a.line) (λ piece mark. refl) (λ kind. []) set (is_kept_at set lines) (enumerate_from 0 lines) (kept_places set (map (is_kept set) lines) [] lines refl)
 
 pub kept_links : (always : List (List ℕ)) (r : Rows) (lines : List FlatLine) (choice : Choice)
-    → links_of (pieces_of (registry_setting always r) lines choice)
-    ≡ filter (λ link. is_kept_at (names_set (registry_setting always r) choice) lines link.place.line) (all_links (registry_setting always r) lines)
+    → links_of (pieces_of (pageless_setting always r) lines choice)
+    ≡ filter (λ link. is_kept_at (names_set (pageless_setting always r) choice) lines link.place.line) (all_links (pageless_setting always r) lines)
 kept_links always r lines choice =
-    let set = names_set (registry_setting always r) choice in
+    let set = names_set (pageless_setting always r) choice in
     found_kept (λ mark. not mark.anchor) link_at (λ l. l.place.line) (λ piece mark. refl) (λ kind. []) set (is_kept_at set lines) (enumerate_from 0 lines) (kept_places set (map (is_kept set) lines) [] lines refl)
 
 -- ---- the lines of all marks
 
-pub anchors_within : (always : List (List ℕ)) (r : Rows) (lines : List FlatLine) → All (λ anchor. anchor.line < length lines) (anchors_of (all_pieces (registry_setting always r) lines))
+pub anchors_within : (always : List (List ℕ)) (r : Rows) (lines : List FlatLine) → All (λ anchor. anchor.line < length lines) (anchors_of (all_pieces (pageless_setting always r) lines))
 anchors_within always r lines =
-    All-weaker (λ (a : Anchor). a.line < 0 + length lines) (λ a. a.line < length lines) (λ a less. omega (arith, less)) (anchors_of (all_pieces (registry_setting always r) lines))
+    All-weaker (λ (a : Anchor). a.line < 0 + length lines) (λ a. a.line < length lines) (λ a less. omega (arith, less)) (anchors_of (all_pieces (pageless_setting always r) lines))
     (found_within (λ mark. mark.anchor) anchor_at (λ a. a.line) (λ piece mark. refl) (λ kind. []) 0 lines)
 
-pub links_within : (always : List (List ℕ)) (r : Rows) (lines : List FlatLine) → All (λ link. link.place.line < length lines) (all_links (registry_setting always r) lines)
+pub links_within : (always : List (List ℕ)) (r : Rows) (lines : List FlatLine) → All (λ link. link.place.line < length lines) (all_links (pageless_setting always r) lines)
 links_within always r lines =
-    All-weaker (λ (l : Link). l.place.line < 0 + length lines) (λ l. l.place.line < length lines) (λ l less. omega (arith, less)) (all_links (registry_setting always r) lines)
+    All-weaker (λ (l : Link). l.place.line < 0 + length lines) (λ l. l.place.line < length lines) (λ l less. omega (arith, less)) (all_links (pageless_setting always r) lines)
     (found_within (λ mark. not mark.anchor) link_at (λ l. l.place.line) (λ piece mark. refl) (λ kind. []) 0 lines)
 
 -- ---- no page

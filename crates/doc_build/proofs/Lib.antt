@@ -1,3 +1,16 @@
+pub mod AskedLemmas
+pub mod ChosenLemmas
+pub mod CountLemmas
+pub mod FilledLemmas
 pub mod FoundLemmas
+pub mod JoinLemmas
+pub mod KeepingLemmas
+pub mod LinesLemmas
 pub mod OrderLemmas
 pub mod OptionsLemmas
+pub mod PageLemmas
+pub mod SiteLemmas
+pub mod SiteOrderLemmas
+pub mod StandLemmas
+pub mod TableLemmas
+pub mod UsageLemmas

@@ -17,26 +17,27 @@ use Rattle.doc_cond.specs.declared.LineKind.TheVariants.{Plain, Comment, Other, 
 use Rattle.doc_tree.specs.Flat.{FlatLine}
 use Rattle.reg_registry.specs.Rows.{Rows}
 use Rattle.doc_build.specs.declared.Place.{Place}
-use Rattle.doc_build.specs.Choices.{PageLine, registry_setting}
+use Rattle.doc_build.specs.Choices.{PageLine, pageless_setting}
 use Rattle.doc_build.specs.Laws.{IsBefore}
-use Rattle.doc_build.specs.Pieces.{Link, Piece, all_links, link_at, links_of, marks_in, pieces_among, pieces_at, whole_piece}
+use Rattle.doc_build.specs.declared.Piece.{Piece}
+use Rattle.doc_build.specs.Pieces.{Link, all_links, link_at, links_of, marks_in, pieces_among, pieces_at, whole_piece}
 use Rattle.doc_build.proofs.FoundLemmas.{found_at, line_of_piece}
 
 -- ---- lists in order
 
 -- each element is before all later ones
-abbrev AreOrdered : {X : Type 0} → (X → X → Type 0) → List X → Type 0
+abbrev pub AreOrdered : {X : Type 0} → (X → X → Type 0) → List X → Type 0
 AreOrdered R [] = ⊤
 AreOrdered R (x ∷ xs) = All (R x) xs × AreOrdered R xs
 
-ordered-append : {X : Type 0} (R : X → X → Type 0) (xs ys : List X) → AreOrdered R xs → AreOrdered R ys → All (λ x. All (R x) ys) xs → AreOrdered R (xs ++ ys)
+pub ordered-append : {X : Type 0} (R : X → X → Type 0) (xs ys : List X) → AreOrdered R xs → AreOrdered R ys → All (λ x. All (R x) ys) xs → AreOrdered R (xs ++ ys)
 ordered-append R [] ys first later across = later
 ordered-append R (x ∷ xs) ys first later across = (
   All-append (R x) xs ys first.0 (All-head (λ z. All (R z) ys) x xs across),
   ordered-append R xs ys first.1 later (All-tail (λ z. All (R z) ys) x xs across),
 )
 
-ordered-map : {X Y : Type 0} (R : Y → Y → Type 0) (f : X → Y) (xs : List X) → AreOrdered (λ x y. R (f x) (f y)) xs → AreOrdered R (map f xs)
+pub ordered-map : {X Y : Type 0} (R : Y → Y → Type 0) (f : X → Y) (xs : List X) → AreOrdered (λ x y. R (f x) (f y)) xs → AreOrdered R (map f xs)
 ordered-map R f [] ordered = tt
 ordered-map R f (x ∷ xs) ordered = (All-map (R (f x)) f xs ordered.0, ordered-map R f xs ordered.1)
 
@@ -50,11 +51,11 @@ ordered-filter R test (x ∷ xs) ordered =
       | inr fails ↦ subst (λ (b : Bool). AreOrdered R (cond b (x ∷ filter test xs) (filter test xs))) (sym fails) rest
     ]
 
-ordered-weaker : {X : Type 0} (R S : X → X → Type 0) → ((x y : X) → R x y → S x y) → (xs : List X) → AreOrdered R xs → AreOrdered S xs
+pub ordered-weaker : {X : Type 0} (R S : X → X → Type 0) → ((x y : X) → R x y → S x y) → (xs : List X) → AreOrdered R xs → AreOrdered S xs
 ordered-weaker R S gives [] ordered = tt
 ordered-weaker R S gives (x ∷ xs) ordered = (All-weaker (R x) (S x) (gives x) xs ordered.0, ordered-weaker R S gives xs ordered.1)
 
-all_pairs : {X : Type 0} (R : X → X → Type 0) (xs : List X) → AreOrdered R xs → AllPairs R xs
+pub all_pairs : {X : Type 0} (R : X → X → Type 0) (xs : List X) → AreOrdered R xs → AllPairs R xs
 all_pairs R [] ordered = λ i j d less within. absurd (omega arith)
 all_pairs R (x ∷ xs) ordered = AllPairs-cons R x xs ordered.0 (all_pairs R xs ordered.1)
 
@@ -121,7 +122,7 @@ marks_in_order line = marks_ordered line 0 (length line - 0)
 
 -- ---- links
 
-abbrev IsAhead : Link → Link → Type 0
+abbrev pub IsAhead : Link → Link → Type 0
 IsAhead link later = IsBefore link.place later.place
 
 read_in_order : (b : Bool) (line : List ℕ) → AreOrdered IsEarlier (cond b (marks_of line) [])
@@ -129,7 +130,7 @@ read_in_order true line = marks_in_order line
 read_in_order false line = tt
 
 -- the links of a piece are in order
-links_here : (piece : Piece) → AreOrdered IsAhead (links_of (piece ∷ []))
+pub links_here : (piece : Piece) → AreOrdered IsAhead (links_of (piece ∷ []))
 links_here piece =
     let marks = filter (λ (mark : Mark). not mark.anchor) (marks_in piece) in
     let ordered = ordered-filter IsEarlier (λ mark. not mark.anchor) (marks_in piece) (read_in_order piece.marked piece.bytes) in
@@ -188,12 +189,12 @@ links_in_lines number (line ∷ lines) =
     (links_line number line) (lines_here number line)))
 
 -- the links of a document are in order
-pub links_ordered : (always : List (List ℕ)) (r : Rows) (lines : List FlatLine) → AllPairs IsAhead (all_links (registry_setting always r) lines)
+pub links_ordered : (always : List (List ℕ)) (r : Rows) (lines : List FlatLine) → AllPairs IsAhead (all_links (pageless_setting always r) lines)
 unfolding links_from
-links_ordered always r lines = all_pairs IsAhead (all_links (registry_setting always r) lines) (links_in_lines 0 lines)
+links_ordered always r lines = all_pairs IsAhead (all_links (pageless_setting always r) lines) (links_in_lines 0 lines)
 
 -- no place is before itself
-never_before : (place : Place) → ¬ IsBefore place place
+pub never_before : (place : Place) → ¬ IsBefore place place
 never_before place (inl less) = omega (arith, less)
 never_before place (inr (same, inl less)) = omega (arith, less)
 never_before place (inr (same, inr (also, less))) = omega (arith, less)
@@ -207,14 +208,17 @@ never_same links i j link other ordered here there same less =
     let places : (get_or links i link).place ≡ (get_or links j link).place = ap (λ (l : Link). l.place) first ∙ same ∙ sym (ap (λ (l : Link). l.place) second) in
     never_before (get_or links j link).place (subst (λ (place : Place). IsBefore place (get_or links j link).place) places ahead)
 
-pub links_apart : (always : List (List ℕ)) (r : Rows) (lines : List FlatLine) (i j : ℕ) (link other : Link)
-    → slice_get (all_links (registry_setting always r) lines) i ≡ Some link → slice_get (all_links (registry_setting always r) lines) j ≡ Some other
-    → link.place ≡ other.place → i ≡ j
-links_apart always r lines i j link other here there same =
-    let links = all_links (registry_setting always r) lines in
-    let ordered = links_ordered always r lines in
+-- links in order that have the same place are the same one
+pub apart : (links : List Link) (i j : ℕ) (link other : Link) → AllPairs IsAhead links → slice_get links i ≡ Some link → slice_get links j ≡ Some other → link.place ≡ other.place → i ≡ j
+apart links i j link other ordered here there same =
     elim (cases_order i j) [
       | inl is ↦ is
       | inr (inl less) ↦ absurd (never_same links i j link other ordered here there same less)
       | inr (inr more) ↦ absurd (never_same links j i other link ordered there here (sym same) more)
     ]
+
+pub links_apart : (always : List (List ℕ)) (r : Rows) (lines : List FlatLine) (i j : ℕ) (link other : Link)
+    → slice_get (all_links (pageless_setting always r) lines) i ≡ Some link → slice_get (all_links (pageless_setting always r) lines) j ≡ Some other
+    → link.place ≡ other.place → i ≡ j
+links_apart always r lines i j link other here there same =
+    apart (all_links (pageless_setting always r) lines) i j link other (links_ordered always r lines) here there same

@@ -45,10 +45,10 @@ mentioned lines = each_once (flat_map (λ line. names_in line.kind) lines)
 abbrev pub free_names : List (List ℕ) → List FlatLine → List (List ℕ)
 free_names always lines = filter (λ name. not (is_among always name)) (mentioned lines)
 
--- Over a registry: its options, and the choices that it permits, with a value for each option. Generated pages aren't built yet, so this is for
--- documents that include none of a declared name.
-abbrev pub registry_setting : List (List ℕ) → Rows → Setting
-registry_setting always r = record {
+-- Over a registry whose pages give nothing: its options, and the choices that it permits, with a value for each option. So it is for documents
+-- that include no page of a declared name.
+abbrev pub pageless_setting : List (List ℕ) → Rows → Setting
+pageless_setting always r = record {
   always = always;
   options = r.options;
   Permits = λ choice. (length choice ≡ length r.options) × IsPermitted r choice;
@@ -57,7 +57,7 @@ registry_setting always r = record {
 
 -- over no registry: a bare one of the document's options stands for it, which declares nothing and permits every choice
 abbrev pub bare_setting : List (List ℕ) → List FlatLine → Setting
-bare_setting always lines = registry_setting always (bare_rows (free_names always lines))
+bare_setting always lines = pageless_setting always (bare_rows (free_names always lines))
 
 -- the chosen options, in order
 abbrev pub chosen_of : List (List ℕ) → Choice → List (List ℕ)

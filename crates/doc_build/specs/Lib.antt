@@ -1,5 +1,13 @@
 pub mod Breaks
+pub mod Built
 pub mod Choices
+pub mod Counting
 pub mod Ids
+pub mod Keeping
 pub mod Laws
+pub mod Lines
+pub mod Names
+pub mod Pages
 pub mod Pieces
+pub mod Settings
+pub mod Sites

@@ -7,21 +7,10 @@ use Rattle.doc_marks.specs.declared.Mark.{Mark}
 use Rattle.doc_cond.specs.declared.LineKind.{LineKind}
 use Rattle.doc_cond.specs.declared.LineKind.TheVariants.{Plain, Comment, Other, OneLine, Refpage, Begin, Close, Chapter, Api, Validity}
 use Rattle.doc_tree.specs.Flat.{FlatLine, is_kept}
+use Rattle.doc_build.specs.declared.Piece.{Piece}
 use Rattle.doc_build.specs.declared.Place.{Place}
 use Rattle.doc_build.specs.Choices.{Choice, PageLine, Setting, names_set}
 use Rattle.doc_build.specs.Ids.{id_at}
-
--- a line of the built text
-pub record Piece : Type 0 where
-  -- the flat line that gives it, from 0
-  pub line : ℕ
-  -- its statement's number, or 0
-  pub statement : ℕ
-  -- the byte of the flat line, or of its statement's line, at which it starts
-  pub start : ℕ
-  -- whether marks are read in it
-  pub marked : Bool
-  pub bytes : List ℕ
 
 -- a line as it stands
 abbrev pub whole_piece : ℕ → Bool → List ℕ → Piece

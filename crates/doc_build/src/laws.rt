@@ -6,9 +6,12 @@ ghost use Rattle.vkb_formula.specs.Names.{AreDifferent};
 ghost use Rattle.doc_tree.specs.Flat.{FlatLine, is_among};
 ghost use Rattle.doc_tree.specs.Names.{each_once, names_in};
 ghost use Rattle.reg_registry.specs.Rows.{Rows};
-ghost use Rattle.doc_build.specs.Choices.{Choice, bare_setting, chosen_of, free_names, names_set, registry_setting};
+ghost use Rattle.doc_build.specs.Choices.{Choice, bare_setting, chosen_of, free_names, names_set, pageless_setting};
 ghost use Rattle.doc_build.specs.Ids.{id_at};
-ghost use Rattle.doc_build.specs.Laws.{IsBefore, SetsNoPage, is_kept_at};
+ghost use Rattle.doc_build.specs.Keeping.{LinesAreKeptByNumber, OptionsAreSet};
+ghost use Rattle.doc_build.specs.Laws.{AnchorsFollowTheClosure, IsBefore, LinesStandWhereKept, SetsNoPage, TextsAreOfNamesAsked, is_kept_at};
+ghost use Rattle.doc_build.specs.Settings.{PagesAreOfNames};
+ghost use Rattle.doc_build.specs.Sites.{LinksStandWithTheirLines, MarksAtSomeChoice, MarksFollowTheChoice, SitesInOrder};
 ghost use Rattle.doc_build.specs.Pieces.{Link, all_links, all_pieces, anchors_of, links_of, pieces_of};
 
 use reg_permit::bare_is_free;
@@ -17,27 +20,27 @@ use reg_permit::bare_is_free;
 /// lines are kept, in order.
 pub fn kept_marks()
     ensures anchors { (always : List (List ℕ)) (r : Rows) (lines : List FlatLine) (choice : Choice)
-        → anchors_of (pieces_of (registry_setting always r) lines choice)
-        ≡ filter (λ anchor. is_kept_at (names_set (registry_setting always r) choice) lines anchor.line) (anchors_of (all_pieces (registry_setting always r) lines)) }
+        → anchors_of (pieces_of (pageless_setting always r) lines choice)
+        ≡ filter (λ anchor. is_kept_at (names_set (pageless_setting always r) choice) lines anchor.line) (anchors_of (all_pieces (pageless_setting always r) lines)) }
     ensures links { (always : List (List ℕ)) (r : Rows) (lines : List FlatLine) (choice : Choice)
-        → links_of (pieces_of (registry_setting always r) lines choice)
-        ≡ filter (λ link. is_kept_at (names_set (registry_setting always r) choice) lines link.place.line) (all_links (registry_setting always r) lines) }
+        → links_of (pieces_of (pageless_setting always r) lines choice)
+        ≡ filter (λ link. is_kept_at (names_set (pageless_setting always r) choice) lines link.place.line) (all_links (pageless_setting always r) lines) }
 {}
 
 /// Over such a registry, each anchor and each link of a document is in one of its lines.
 pub fn marks_in_lines()
     ensures anchors { (always : List (List ℕ)) (r : Rows) (lines : List FlatLine)
-        → All (λ anchor. anchor.line < length lines) (anchors_of (all_pieces (registry_setting always r) lines)) }
+        → All (λ anchor. anchor.line < length lines) (anchors_of (all_pieces (pageless_setting always r) lines)) }
     ensures links { (always : List (List ℕ)) (r : Rows) (lines : List FlatLine)
-        → All (λ link. link.place.line < length lines) (all_links (registry_setting always r) lines) }
+        → All (λ link. link.place.line < length lines) (all_links (pageless_setting always r) lines) }
 {}
 
 /// Over such a registry, the links of a document stand in the order of their places, so no two have the same place.
 pub fn links_in_order()
     ensures order { (always : List (List ℕ)) (r : Rows) (lines : List FlatLine)
-        → AllPairs (λ link later. IsBefore link.place later.place) (all_links (registry_setting always r) lines) }
+        → AllPairs (λ link later. IsBefore link.place later.place) (all_links (pageless_setting always r) lines) }
     ensures apart { (always : List (List ℕ)) (r : Rows) (lines : List FlatLine) (i j : ℕ) (link other : Link)
-        → slice_get (all_links (registry_setting always r) lines) i ≡ Some link → slice_get (all_links (registry_setting always r) lines) j ≡ Some other
+        → slice_get (all_links (pageless_setting always r) lines) i ≡ Some link → slice_get (all_links (pageless_setting always r) lines) j ≡ Some other
         → link.place ≡ other.place → i ≡ j }
 {}
 
@@ -69,3 +72,55 @@ pub fn permitted_choices()
 {
     bare_is_free();
 }
+
+/// Whether a line of a loaded document is kept is told by what is made of its conditions, one after another: each is met by itself, and
+/// so are those round it.
+pub fn lines_are_kept_by_number()
+    ensures { LinesAreKeptByNumber }
+{}
+
+/// A name is set at a choice where it always is, or where it is an option that is chosen.
+pub fn options_are_set()
+    ensures { OptionsAreSet }
+{}
+
+/// The text at a choice has of each line of the document what the line gives, where the line is kept, and else nothing.
+pub fn lines_stand_where_kept()
+    ensures { LinesStandWhereKept }
+{}
+
+/// The include of a declared name's page gives the anchor of the page exactly where the closure has the name, and no other anchor.
+pub fn anchors_follow_the_closure()
+    ensures { AnchorsFollowTheClosure }
+{}
+
+/// Over no registry, choices that set the same of the names that a document asks for give the same text.
+pub fn texts_are_of_names_asked()
+    ensures { TextsAreOfNamesAsked }
+{}
+
+/// Where no line of a document includes the page of a declared name, its text is that over a registry whose pages give nothing.
+pub fn pages_are_of_names()
+    ensures { PagesAreOfNames }
+{}
+
+/// Over a registry, the anchors and the links of the text at a choice are those of the lines with marks that stand there, in order: of the
+/// lines that a document gives at some choice or other, those whose flat line is kept and for which the closure has the names that they need.
+pub fn marks_follow_the_choice()
+    ensures { MarksFollowTheChoice }
+{}
+
+/// What a document gives at some choice or other has the anchors and the links of these lines, in order.
+pub fn marks_at_some_choice()
+    ensures { MarksAtSomeChoice }
+{}
+
+/// Each of these lines is of a line of the document, and their links stand in the order of their places, so no two have the same place.
+pub fn sites_in_order()
+    ensures { SitesInOrder }
+{}
+
+/// A link of one of these lines is in the text at a choice exactly where the line stands there.
+pub fn links_stand_with_their_lines()
+    ensures { LinksStandWithTheirLines }
+{}

@@ -8,6 +8,7 @@ pub mod TriedLemmas
 pub mod SitesLemmas
 pub mod VerdictLemmas
 pub mod LawLemmas
+pub mod JudgedLemmas
 pub mod ConditionLemmas
 pub mod LineLemmas
 pub mod NodesLemmas

@@ -10,7 +10,7 @@ use Rattle.doc_tree.specs.Loaded.{flat_line, flat_of, rounds_of}
 use Rattle.doc_tree.specs.declared.DocLine.{DocLine}
 use Rattle.doc_tree.specs.declared.Document.{Document}
 use Rattle.reg_registry.specs.Rows.{Rows}
-use Rattle.doc_build.specs.Choices.{Choice, Setting, names_set, registry_setting}
+use Rattle.doc_build.specs.Choices.{Choice, Setting, names_set, pageless_setting}
 use Rattle.doc_build.specs.Laws.{is_kept_at}
 use Rattle.lift_check.specs.Keeping.{KeepsLines, node_of}
 use Rattle.lift_check.specs.Lines.{AreLineNodes, is_line_on}
@@ -39,8 +39,8 @@ nodes_of_lines setting text d pool node_of within reach kept = record {
 }
 
 -- the nodes of conditions keep each line where more is put behind them
-pub keeps-more : (always : List (List ℕ)) (r : Rows) (text : List ℕ) (d : Document) (old new : List PoolNode) (nodes : List NodeId) (permit : NodeId) → KeepsLines (registry_setting always r) text d old nodes
-    → IsPermit r old new permit → KeepsLines (registry_setting always r) text d new nodes
+pub keeps-more : (always : List (List ℕ)) (r : Rows) (text : List ℕ) (d : Document) (old new : List PoolNode) (nodes : List NodeId) (permit : NodeId) → KeepsLines (pageless_setting always r) text d old nodes
+    → IsPermit r old new permit → KeepsLines (pageless_setting always r) text d new nodes
 keeps-more always r text d old new nodes permit keeps is = record {
   within = All-weaker (λ (line : DocLine). (node_of nodes line).0 < length old) (λ (line : DocLine). (node_of nodes line).0 < length new) (λ line below. omega (arith, below, is.count)) d.lines keeps.within;
   reach = omega (arith, keeps.reach, is.reach);

@@ -8,7 +8,8 @@ use Rattle.doc_marks.specs.declared.Mark.{Mark}
 use Rattle.vkb_formula.specs.Names.{AreDifferent, place_of, with_name}
 use Rattle.lift_check.specs.declared.survey.AnchorSite.{AnchorSite}
 use Rattle.lift_check.specs.declared.survey.LinkSite.{LinkSite}
-use Rattle.doc_build.specs.Pieces.{Piece, anchor_at, id_in, link_at}
+use Rattle.doc_build.specs.declared.Piece.{Piece}
+use Rattle.doc_build.specs.Pieces.{anchor_at, id_in, link_at}
 use Rattle.lift_check.specs.Survey.{AreNumbered, named_anchors, named_links, part_anchors, part_links, written_anchors, written_links}
 
 pub part_anchors-anchor : (piece : Piece) (mark : Mark) (marks : List Mark) → mark.anchor ≡ true → part_anchors piece (mark ∷ marks) ≡ (piece.line, Some (id_in piece.bytes mark)) ∷ part_anchors piece marks

@@ -14,7 +14,8 @@ use Rattle.doc_tree.specs.Loaded.{IsLineThere, IsLoaded, flat_line}
 use Rattle.doc_tree.specs.declared.DocLine.{DocLine}
 use Rattle.doc_tree.specs.declared.Document.{Document}
 use Rattle.doc_build.specs.Choices.{no_pages}
-use Rattle.doc_build.specs.Pieces.{Anchor, Link, Piece, anchor_at, anchors_of, link_at, links_of, marks_in, pieces_among, pieces_at}
+use Rattle.doc_build.specs.declared.Piece.{Piece}
+use Rattle.doc_build.specs.Pieces.{Anchor, Link, anchor_at, anchors_of, link_at, links_of, marks_in, pieces_among, pieces_at}
 use Rattle.lift_check.specs.Lines.{IsLineIn}
 use Rattle.lift_check.specs.Survey.{IsSurvey, NamedAnchor, NamedLink, marked_piece, part_anchors, part_links, written_anchors, written_links}
 use Rattle.lift_check.specs.declared.survey.AnchorSite.{AnchorSite}

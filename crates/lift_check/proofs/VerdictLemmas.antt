@@ -14,7 +14,7 @@ use Rattle.vkb_formula.specs.declared.pool.PoolNode.{PoolNode}
 use Rattle.doc_tree.specs.Flat.{FlatLine}
 use Rattle.reg_registry.specs.Rows.{Rows}
 use Rattle.doc_build.specs.Breaks.{Breaks, IsSound}
-use Rattle.doc_build.specs.Choices.{Choice, names_set, registry_setting}
+use Rattle.doc_build.specs.Choices.{Choice, names_set, pageless_setting}
 use Rattle.doc_build.specs.Ids.{id_at}
 use Rattle.doc_build.specs.Laws.{is_kept_at}
 use Rattle.doc_build.specs.Pieces.{Anchor, Link, all_links, all_pieces, anchor_id, anchors_of, count_of, link_id, links_of, pieces_of}
@@ -46,40 +46,40 @@ found_within pool permit nodes options anchors links (Some broken) found = slice
 
 -- what the laws of the built text say of a document
 pub record AreLaws (always : List (List ℕ)) (r : Rows) (lines : List FlatLine) : Type 0 where
-  pub anchors : (choice : Choice) → anchors_of (pieces_of (registry_setting always r) lines choice)
-      ≡ filter (λ anchor. is_kept_at (names_set (registry_setting always r) choice) lines anchor.line) (anchors_of (all_pieces (registry_setting always r) lines))
-  pub links : (choice : Choice) → links_of (pieces_of (registry_setting always r) lines choice)
-      ≡ filter (λ link. is_kept_at (names_set (registry_setting always r) choice) lines link.place.line) (all_links (registry_setting always r) lines)
-  pub anchors_within : All (λ anchor. anchor.line < length lines) (anchors_of (all_pieces (registry_setting always r) lines))
-  pub links_within : All (λ link. link.place.line < length lines) (all_links (registry_setting always r) lines)
+  pub anchors : (choice : Choice) → anchors_of (pieces_of (pageless_setting always r) lines choice)
+      ≡ filter (λ anchor. is_kept_at (names_set (pageless_setting always r) choice) lines anchor.line) (anchors_of (all_pieces (pageless_setting always r) lines))
+  pub links : (choice : Choice) → links_of (pieces_of (pageless_setting always r) lines choice)
+      ≡ filter (λ link. is_kept_at (names_set (pageless_setting always r) choice) lines link.place.line) (all_links (pageless_setting always r) lines)
+  pub anchors_within : All (λ anchor. anchor.line < length lines) (anchors_of (all_pieces (pageless_setting always r) lines))
+  pub links_within : All (λ link. link.place.line < length lines) (all_links (pageless_setting always r) lines)
   pub written : (set : List (List ℕ)) (place : ℕ) (id : List ℕ) → id_at lines set place id ≡ id
 
 module _ (always : List (List ℕ)) (r : Rows) (lines : List FlatLine) (pool : List PoolNode) (permit : NodeId) (nodes : List NodeId) (ids : List (List ℕ)) (anchors : List AnchorSite) (links : List LinkSite)
-    (laws : AreLaws always r lines) (are : AreLineNodes (registry_setting always r) lines pool nodes) (says : SaysPermits r pool permit) (survey : IsSurvey lines ids anchors links) where
+    (laws : AreLaws always r lines) (are : AreLineNodes (pageless_setting always r) lines pool nodes) (says : SaysPermits r pool permit) (survey : IsSurvey lines ids anchors links) where
   abbrev options : ℕ
   options = length r.options
 
   -- the links of the document
   abbrev all : List Link
-  all = all_links (registry_setting always r) lines
+  all = all_links (pageless_setting always r) lines
 
   -- the text that is built for a choice
   abbrev built_links : Choice → List Link
-  built_links choice = links_of (pieces_of (registry_setting always r) lines choice)
+  built_links choice = links_of (pieces_of (pageless_setting always r) lines choice)
 
   -- whether a choice keeps a line
   abbrev kept : Choice → ℕ → Bool
-  kept choice = is_kept_at (names_set (registry_setting always r) choice) lines
+  kept choice = is_kept_at (names_set (pageless_setting always r) choice) lines
 
   -- the count of an id in the text that is built for a choice
   abbrev count_at : Choice → List ℕ → ℕ
-  count_at choice id = count_of (registry_setting always r) lines choice id
+  count_at choice id = count_of (pageless_setting always r) lines choice id
 
   abbrev DoesBreak : Choice → Link → Type 0
-  DoesBreak choice link = Breaks (registry_setting always r) lines choice link
+  DoesBreak choice link = Breaks (pageless_setting always r) lines choice link
 
   abbrev IsSoundLink : Link → Type 0
-  IsSoundLink link = IsSound (registry_setting always r) lines link
+  IsSoundLink link = IsSound (pageless_setting always r) lines link
 
   -- a link's line is on where it is kept
   on_where_kept : (choice : Choice) → length choice ≡ options → (site : LinkSite) (link : Link) → IsSiteOf ids site link → link.place.line < length lines
@@ -87,14 +87,14 @@ module _ (always : List (List ℕ)) (r : Rows) (lines : List FlatLine) (pool : L
   on_where_kept choice permitted site link is within = ap (λ place. is_line_on (pool_values choice pool) nodes place.line) is.place_is ∙ are.kept choice permitted link.place.line within
 
   -- what is counted in the text that is built is counted among all anchors
-  count_all : (choice : Choice) (id : List ℕ) → count_at choice id ≡ count_by (λ a. kept choice a.line && bytes_eq id a.id) (anchors_of (all_pieces (registry_setting always r) lines))
+  count_all : (choice : Choice) (id : List ℕ) → count_at choice id ≡ count_by (λ a. kept choice a.line && bytes_eq id a.id) (anchors_of (all_pieces (pageless_setting always r) lines))
   count_all choice id =
-      let test : Anchor → Bool = λ a. bytes_eq id (anchor_id (registry_setting always r) lines choice a) in
+      let test : Anchor → Bool = λ a. bytes_eq id (anchor_id (pageless_setting always r) lines choice a) in
       let stays : Anchor → Bool = λ a. kept choice a.line in
-      let anchors_all = anchors_of (all_pieces (registry_setting always r) lines) in
+      let anchors_all = anchors_of (all_pieces (pageless_setting always r) lines) in
       ap (count_by test) (laws.anchors choice)
       ∙ count_by-filter test stays anchors_all
-      ∙ count_by-same (λ a. stays a && test a) (λ a. stays a && bytes_eq id a.id) (λ a. ap (λ (written : List ℕ). stays a && bytes_eq id written) (laws.written (names_set (registry_setting always r) choice) a.line a.id)) anchors_all
+      ∙ count_by-same (λ a. stays a && test a) (λ a. stays a && bytes_eq id a.id) (λ a. ap (λ (written : List ℕ). stays a && bytes_eq id written) (laws.written (names_set (pageless_setting always r) choice) a.line a.id)) anchors_all
 
   -- the anchors of a link's id are counted in the text that is built
   counts : (choice : Choice) → length choice ≡ options → (site : LinkSite) (link : Link) → IsSiteOf ids site link
@@ -104,8 +104,8 @@ module _ (always : List (List ℕ)) (r : Rows) (lines : List FlatLine) (pool : L
       ∙ sym (count_all choice link.id)
 
   -- the id of a link is as it is written
-  id_written : (choice : Choice) (link : Link) → link_id (registry_setting always r) lines choice link ≡ link.id
-  id_written choice link = laws.written (names_set (registry_setting always r) choice) link.place.line link.id
+  id_written : (choice : Choice) (link : Link) → link_id (pageless_setting always r) lines choice link ≡ link.id
+  id_written choice link = laws.written (names_set (pageless_setting always r) choice) link.place.line link.id
 
   sound_site : (choice : Choice) → length choice ≡ options → (site : LinkSite) (link : Link) → IsSiteOf ids site link → link.place.line < length lines
       → is_broken (pool_values choice pool) nodes anchors site ≡ false → ¬ DoesBreak choice link
@@ -147,11 +147,11 @@ module _ (always : List (List ℕ)) (r : Rows) (lines : List FlatLine) (pool : L
   sites_are : AllZip (IsSiteOf ids) links all
   sites_are = link_sites lines ids anchors links survey
 
-  pub yes_is : NeverBreaks pool permit nodes options anchors links → IsVerdict (registry_setting always r) lines (Yes (length links))
+  pub yes_is : NeverBreaks pool permit nodes options anchors links → IsVerdict (pageless_setting always r) lines (Yes (length links))
   yes_is never = (same_length (IsSiteOf ids) links all sites_are, sound_links links all sites_are laws.links_within never)
 
   pub no_is : (at : ℕ) (choice : Choice) (count : ℕ) (site : LinkSite) (id : List ℕ) → BreaksFirst pool permit nodes options anchors links at choice count → slice_get links at ≡ Some site → slice_get ids site.id.0 ≡ Some id
-      → IsVerdict (registry_setting always r) lines (No site.place id choice count)
+      → IsVerdict (pageless_setting always r) lines (No site.place id choice count)
   no_is at choice count site id first there named =
       let none : Link = record { place = site.place; id = id } in
       let link = get_or all at none in
@@ -176,6 +176,6 @@ module _ (always : List (List ℕ)) (r : Rows) (lines : List FlatLine) (pool : L
       }
 
   -- the verdict by what the search found
-  pub verdict_is : (broken : Option Broken) (verdict : Verdict) → IsVerdictBy ids links broken verdict → IsFound pool permit nodes options anchors links broken → IsVerdict (registry_setting always r) lines verdict
+  pub verdict_is : (broken : Option Broken) (verdict : Verdict) → IsVerdictBy ids links broken verdict → IsFound pool permit nodes options anchors links broken → IsVerdict (pageless_setting always r) lines verdict
   verdict_is None verdict by found = rw by (yes_is found)
   verdict_is (Some broken) verdict (site, id, there, named, by) found = rw by (no_is broken.link.0 broken.choice.items broken.count site id found there named)

@@ -1,14 +1,13 @@
 -- What putting nodes for names and conditions keeps, which no public contract names. It holds at each list of values, of whatever
 -- length.
-use Rattle.std.specs.Prelude.{◌≡◌, ℕ, ◌+◌, ◌<◌, ◌≤◌, Bool, true, false, not, ◌&&◌, List, [], ◌∷◌, ◌++◌, Option, Some, None, All, length, map, max, slice_index_or, if◌then◌else◌}
-use Rattle.std.specs.List.{list_all, list_any}
+use Rattle.std.specs.Prelude.{◌≡◌, ℕ, ◌+◌, ◌<◌, ◌≤◌, Bool, true, false, List, All, length, map, max, slice_index_or}
 use Rattle.vkb_formula.specs.Pools.{pool_reach, pool_values, reach_at, value_at}
 use Rattle.vkb_formula.specs.declared.name_table.NameId.{NameId}
 use Rattle.vkb_formula.specs.declared.pool.NodeId.{NodeId}
 use Rattle.vkb_formula.specs.declared.pool.PoolNode.{PoolNode}
 use Rattle.doc_tree.specs.declared.Cond.{Cond}
-use Rattle.doc_tree.specs.declared.CondId.{CondId}
 use Rattle.doc_build.specs.Choices.{Choice}
+use Rattle.doc_build.specs.Keeping.{meets_by}
 use Rattle.lift_check.specs.declared.options.Setting.{Setting}
 use Rattle.lift_check.specs.declared.options.Setting.TheVariants.{Fixed, Free, Unset}
 use Rattle.lift_check.specs.Keeping.{is_on}
@@ -28,19 +27,7 @@ has_name settings choice name = is_set choice (setting_of settings name)
 
 -- the condition is met at a choice
 abbrev pub meets : Settings → Choice → Cond → Bool
-meets settings choice cond =
-    let held = if cond.any then list_any (has_name settings choice) cond.names else list_all (has_name settings choice) cond.names in
-    if cond.negated then not held else held
-
--- what was made of the condition that is named; where there is none, true
-abbrev pub met_at : List Bool → Option CondId → Bool
-met_at made None = true
-met_at made (Some cond) = slice_index_or made cond.0 true
-
--- for each condition whether it and those round it are met, from the conditions before it
-abbrev pub met_from : (Cond → Bool) → List Bool → List Cond → List Bool
-met_from met made [] = made
-met_from met made (cond ∷ conds) = met_from met (made ++ (met_at made cond.within && met cond) ∷ []) conds
+meets settings choice = meets_by (has_name settings choice)
 
 -- ---- nodes that are put
 

@@ -6,7 +6,8 @@ use Rattle.doc_marks.specs.declared.Mark.{Mark}
 use Rattle.doc_tree.specs.Flat.{FlatLine}
 use Rattle.doc_build.specs.declared.Place.{Place}
 use Rattle.doc_build.specs.Choices.{no_pages}
-use Rattle.doc_build.specs.Pieces.{Anchor, Link, Piece, anchor_at, anchors_of, link_at, links_of, pieces_among}
+use Rattle.doc_build.specs.declared.Piece.{Piece}
+use Rattle.doc_build.specs.Pieces.{Anchor, Link, anchor_at, anchors_of, link_at, links_of, pieces_among}
 use Rattle.lift_check.specs.declared.survey.AnchorSite.{AnchorSite}
 use Rattle.lift_check.specs.declared.survey.LinkSite.{LinkSite}
 

@@ -6,13 +6,15 @@ ghost use Rattle.vkb_formula.specs.Pools.{parts_of, pool_reach, pool_values};
 ghost use Rattle.vkb_formula.specs.declared.pool.PoolNode.{PoolNode};
 ghost use Rattle.doc_tree.specs.Loaded.{IsLoaded};
 ghost use Rattle.reg_registry.specs.Rows.{Rows};
-ghost use Rattle.doc_build.specs.Choices.{registry_setting};
+ghost use Rattle.doc_build.specs.Choices.{pageless_setting};
+ghost use Rattle.doc_build.specs.Keeping.{met_from};
 ghost use Rattle.lift_check.specs.Keeping.{KeepsLines, is_on, node_in, node_of};
-ghost use Rattle.lift_check.specs.Nodes.{AreNodes, HoldsOptions, IsNode, IsPut, has_name, meets, met_from, node_for};
+ghost use Rattle.lift_check.specs.Nodes.{AreNodes, HoldsOptions, IsNode, IsPut, has_name, meets, node_for};
 ghost use Rattle.lift_check.specs.Lines.{AreOptionsOf};
 
 use crate::Memory;
 use crate::options::{Options, Setting};
+use doc_build::{lines_are_kept_by_number, options_are_set};
 use doc_tree::{Cond, CondId, DocLine, Document};
 use std::alloc::Global;
 use vkb_bytes::Listed;
@@ -46,8 +48,11 @@ impl Conditions {
 pub fn read_conditions(alloc: Global, d: &Document, options: &Options) -> Result<Conditions, Memory>
     ensures reach { IfOk result (λ c. pool_reach c.pool ≤ options.now.count) }
     ensures lines { (text : List ℕ) (always : List (List ℕ)) (r : Rows) → IsLoaded text d.now → AreDifferent r.options
-        → AreOptionsOf always r d.now options.now → IfOk result (λ c. KeepsLines (registry_setting always r) text d.now c.pool c.nodes) }
+        → AreOptionsOf always r d.now options.now → IfOk result (λ c. KeepsLines (pageless_setting always r) text d.now c.pool c.nodes) }
 {
+    // What is made of the conditions tells of the lines, and a choice of names, by these laws.
+    lines_are_kept_by_number();
+    options_are_set();
     let mut pool = option_nodes(alloc, options.len())?;
     let nodes = cond_nodes(alloc, &mut pool, options, d.conds.as_slice())?;
     Ok(Conditions {

@@ -3,17 +3,30 @@ ghost use Rattle.std.specs.Prelude.{◌≡◌, ℕ, List};
 ghost use Rattle.doc_tree.specs.Flat.{FlatLine};
 ghost use Rattle.reg_registry.specs.Rows.{Rows};
 ghost use Rattle.doc_build.specs.declared.Place.{Place};
-ghost use Rattle.doc_build.specs.Choices.{Choice, registry_setting};
-ghost use Rattle.lift_check.specs.Verdict.{IsVerdict};
+ghost use Rattle.doc_build.specs.Choices.{Choice};
+ghost use Rattle.lift_check.specs.Verdict.{IsJudged, JudgedWithoutPages};
 ghost use Rattle.lift_check.specs.declared.Verdict.TheVariants.{No, Yes};
+
+use doc_build::pages_are_of_names;
+use reg_closure::{closures_are_there, one_closure};
 
 /// Over a registry, a document has one verdict, but for the choice that a `No` names, the id there and its count: all say
 /// yes with one number of links, or all say no and name one place.
 pub fn one_verdict()
     ensures same { (always : List (List ℕ)) (r : Rows) (lines : List FlatLine) (links more : ℕ)
-        → IsVerdict (registry_setting always r) lines (Yes links) → IsVerdict (registry_setting always r) lines (Yes more) → links ≡ more }
+        → IsJudged always r lines (Yes links) → IsJudged always r lines (Yes more) → links ≡ more }
     ensures apart { (always : List (List ℕ)) (r : Rows) (lines : List FlatLine) (links : ℕ) (place : Place) (id : List ℕ) (choice : Choice) (count : ℕ)
-        → IsVerdict (registry_setting always r) lines (Yes links) → ¬ (IsVerdict (registry_setting always r) lines (No place id choice count)) }
+        → IsJudged always r lines (Yes links) → ¬ (IsJudged always r lines (No place id choice count)) }
     ensures first { (always : List (List ℕ)) (r : Rows) (lines : List FlatLine) (place other : Place) (id name : List ℕ) (choice chosen : Choice) (count counted : ℕ)
-        → IsVerdict (registry_setting always r) lines (No place id choice count) → IsVerdict (registry_setting always r) lines (No other name chosen counted) → place ≡ other }
-{}
+        → IsJudged always r lines (No place id choice count) → IsJudged always r lines (No other name chosen counted) → place ≡ other }
+{
+    one_closure();
+}
+
+/// Where no line of a document includes the page of a declared name, its verdict is that over a registry whose pages give nothing.
+pub fn judged_without_pages()
+    ensures { JudgedWithoutPages }
+{
+    closures_are_there();
+    pages_are_of_names();
+}

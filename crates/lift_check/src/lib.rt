@@ -33,7 +33,7 @@ mod trial;
 
 pub use conditions::{Conditions, read_conditions};
 use doc_build::Place;
-pub use laws::one_verdict;
+pub use laws::{judged_without_pages, one_verdict};
 pub use options::{OptionId, Options, Setting, free_options, read_options};
 pub use trial::try_choices;
 use vkb_bytes::{Bytes, Listed};

@@ -10,6 +10,7 @@ ghost use Rattle.lift_check.specs.Lines.{AreOptionsOf};
 ghost use Rattle.lift_check.specs.Options.{AreSettings, IsBelow, IsSetting, free_among, setting_of};
 
 use crate::Memory;
+use doc_build::table_of;
 use doc_tree::Document;
 use reg_registry::Registry;
 use std::alloc::Global;
@@ -156,17 +157,6 @@ fn names_but(alloc: Global, names: &NameTable, fixed: &Names) -> Result<Vec<Byte
         }
     }
     Ok(free)
-}
-
-/// A table of names, in which each is found by its hash.
-fn table_of(alloc: Global, names: &[Bytes]) -> Result<Names, Memory>
-    ensures { IfOk result (λ table. (name : List ℕ) → is_among table name ≡ is_among names.now name) }
-{
-    let mut table = Names::new(alloc);
-    for name in names {
-        table.intern(name.as_slice())?;
-    }
-    Ok(table)
 }
 
 #[cfg(test)]

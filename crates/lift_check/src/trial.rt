@@ -4,7 +4,7 @@ ghost use Rattle.std.specs.Prelude.{◌≡◌, ◌^◌, ℕ, ◌<◌, ◌≤◌,
 ghost use Rattle.vkb_formula.specs.Pools.{pool_reach};
 ghost use Rattle.doc_tree.specs.Loaded.{IsLoaded, flat_of};
 ghost use Rattle.reg_registry.specs.Rows.{Rows};
-ghost use Rattle.doc_build.specs.Choices.{registry_setting};
+ghost use Rattle.doc_build.specs.Choices.{pageless_setting};
 ghost use Rattle.doc_build.specs.Laws.{SetsNoPage};
 ghost use Rattle.lift_check.specs.Choices.{most_options};
 ghost use Rattle.lift_check.specs.Keeping.{node_of};
@@ -42,7 +42,7 @@ pub fn try_choices(
     requires few { length r.now.options ≤ most_options }
     requires settings { (always : List (List ℕ)) × AreOptionsOf always r.now d.now options.now }
     ensures { (always : List (List ℕ)) → AreOptionsOf always r.now d.now options.now
-        → IfOk result (IsVerdict (registry_setting always r.now) (flat_of text.now.bytes d.now)) }
+        → IfOk result (IsVerdict (pageless_setting always r.now) (flat_of text.now.bytes d.now)) }
 {
     r.is_sound();
     let mut conditions = read_conditions(alloc, d, options)?;
@@ -96,8 +96,8 @@ fn try_nodes(
     requires count { length nodes.now ≡ length d.now.lines }
     requires within { All (λ node. node.0 < length pool.now) nodes.now }
     ensures { IfOk result (λ verdict. (always : List (List ℕ)) (r : Rows) → options ≡ length r.options
-        → AreLineNodes (registry_setting always r) (flat_of text.now.bytes d.now) pool.now nodes.now → SaysPermits r pool.now permit
-        → IsVerdict (registry_setting always r) (flat_of text.now.bytes d.now) verdict) }
+        → AreLineNodes (pageless_setting always r) (flat_of text.now.bytes d.now) pool.now nodes.now → SaysPermits r pool.now permit
+        → IsVerdict (pageless_setting always r) (flat_of text.now.bytes d.now) verdict) }
 {
     // What is searched is what the built texts have, by these laws.
     kept_marks();

@@ -15,23 +15,27 @@ use Rattle.reg_rows.specs.Laws.{AnswersAreOne}
 use Rattle.vkb_formula.specs.declared.name_table.NameId.{NameId}
 use Rattle.reg_closure.specs.Laws.{ClosuresAreOne, OrdersAreOne}
 use Rattle.hdr_writer.specs.Headers.{header}
-use Rattle.doc_build.specs.Choices.{Choice, registry_setting}
-use Rattle.lift_check.specs.Verdict.{IsVerdict}
+use Rattle.reg_closure.specs.Closure.{IsClosure}
+use Rattle.reg_permit.specs.Choices.{chosen_by}
+use Rattle.doc_build.specs.Built.{choice_text}
+use Rattle.doc_build.specs.Choices.{Choice}
+use Rattle.lift_check.specs.Verdict.{IsJudged}
 use Rattle.lift_check.specs.declared.Verdict.{Verdict}
 use Rattle.lift_check.specs.declared.Verdict.TheVariants.{No, Yes}
 use Rattle.vu_tags.specs.Tagged.{Names}
 use Rattle.vkb_tool.specs.declared.status.Status.TheVariants.{Broken, Done, Refused, Usage}
 use Rattle.vkb_tool.specs.declared.words.Request.{Request}
-use Rattle.vkb_tool.specs.declared.words.Request.TheVariants.{Check, Header, Tag}
+use Rattle.vkb_tool.specs.declared.words.Request.TheVariants.{Build, Check, Header, Tag}
 use Rattle.vkb_tool.specs.declared.registry.RegistryFault.{RegistryFault}
 use Rattle.vkb_tool.specs.Fault.{Fault, BadTag, InDocument, InRegistry, NoNumber, NotBuilt, NotPermitted, TooManyNames, UnknownOption}
-use Rattle.vkb_tool.specs.Outcome.{AreBuilt, Effect, HasNoFault, IsCheckFault, IsChecked, IsDeclared, IsFaultIn, IsFirstFault, IsFirstUnbuilt, IsOffered, IsRegistryOf, NameOneCircle, NameOnePlace, Outcome, TellsPlace, checked, declared as headed, determined, is_unbuilt, misplaced, most_text, puts_tags, refused, settled, status_of, tagged, writes_alone}
+use Rattle.vkb_tool.specs.Outcome.{AreBuilt, Effect, HasNoFault, IsBuilt, IsDeclared, IsFaultIn, IsFirstFault, IsFirstUnbuilt, IsOffered, IsRegistryOf, IsSubject, NameOneCircle, NameOnePlace, Outcome, TellsPlace, built as texted, checked, declared as headed, determined, is_unbuilt, misplaced, most_text, puts_tags, refused, settled, status_of, tagged, writes_alone}
 use Rattle.vkb_tool.specs.Registry.{IsRegistryFault}
 use Rattle.vkb_tool.specs.Report.{fault_line, report_of, usage_line}
 use Rattle.vkb_tool.specs.Tags.{texts_of}
 use Rattle.vkb_tool.specs.Words.{Spells}
+use Rattle.vkb_tool.proofs.ChoiceLemmas.{same_fault_at}
 use Rattle.vkb_tool.proofs.HeaderLemmas.{one_header, same_header_fault}
-use Rattle.vkb_tool.proofs.OutcomeLemmas.{same_registry_of, sound_registry}
+use Rattle.vkb_tool.proofs.OutcomeLemmas.{AtChoice, Kinds, in_registry, in_walk, inside, kind_of_build, kind_of_check, same_registry_of, sound_registry}
 use Rattle.vkb_tool.proofs.RegistryLemmas.{alike_determined, one_registry_fault}
 use Rattle.vkb_tool.proofs.TagsLemmas.{OnePages, same_tags_fault}
 use Rattle.vkb_tool.proofs.WordsLemmas.{one_position, same_request}
@@ -96,64 +100,53 @@ module _ (one_walk : OneWalk) (one_answer : OneAnswer) (one_rows : AnswersAreOne
   same_walk_fault files root fault other is also =
       same_Some fault other (sym is.first ∙ ap (λ (s : Sources). first_fault s most_text [] (walk s root)) (one_walk files is.sources also.sources is.are also.are) ∙ also.first)
 
-  -- what is checked has one list of lines, and one registry
-  pub same_checked : (files : Files) (registry : Option (List ℕ)) (root api : List ℕ) (always : List (List ℕ)) (r other : Rows) (lines others : List FlatLine)
-      → IsChecked files registry root api always r lines → IsChecked files registry root api always other others → (lines ≡ others) × (r ≡ other)
-  same_checked files registry root api always r other lines others is also =
+  -- a request on a document has one list of lines, and one registry
+  pub same_subject : (files : Files) (registry : Option (List ℕ)) (root api : List ℕ) (always : List (List ℕ)) (r other : Rows) (lines others : List FlatLine)
+      → IsSubject files registry root api always r lines → IsSubject files registry root api always other others → (lines ≡ others) × (r ≡ other)
+  same_subject files registry root api always r other lines others is also =
       let same : lines ≡ others = same_document files root lines others is.document also.document in
       let there : IsRegistryOf files registry api always lines other = subst (λ (ls : List FlatLine). IsRegistryOf files registry api always ls other) (sym same) also.over in
       (same, same_registry_of one_answer one_rows files registry api always lines r other is.over there)
 
-  -- the registry of what is checked is offered
-  offered_checked : (files : Files) (registry : Option (List ℕ)) (api : List ℕ) (always : List (List ℕ)) (lines : List FlatLine) (r : Rows) → IsRegistryOf files registry api always lines r → IsOffered files registry api
-  offered_checked files None api always lines r is = tt
-  offered_checked files (Some name) api always lines r is = (r, is)
+  -- and the registry is offered
+  offered_over : (files : Files) (registry : Option (List ℕ)) (api : List ℕ) (always : List (List ℕ)) (lines : List FlatLine) (r : Rows) → IsRegistryOf files registry api always lines r → IsOffered files registry api
+  offered_over files None api always lines r is = tt
+  offered_over files (Some name) api always lines r is = (r, is)
 
-  -- which fault of a check it is: that of the registry, of the walk, or of the lines
-  data Kinds (files : Files) (registry : Option (List ℕ)) (root api : List ℕ) (always : List (List ℕ)) (fault : Fault) : Type 0 where
-    in_registry : (file : List ℕ) (wrong : RegistryFault) → fault ≡ InRegistry file api wrong → registry ≡ Some file → IsRegistryFault (files file) api wrong → Kinds files registry root api always fault
-    in_walk : (walked : DocumentFault) → fault ≡ InDocument walked → IsOffered files registry api → IsFaultOf files most_text root walked → Kinds files registry root api always fault
-    in_lines : (r : Rows) (flat : List FlatLine) → IsChecked files registry root api always r flat → IsFaultIn r flat fault → Kinds files registry root api always fault
-
-  kind_of : (files : Files) (registry : Option (List ℕ)) (root api : List ℕ) (always : List (List ℕ)) (fault : Fault) → IsCheckFault files registry root api always fault → Kinds files registry root api always fault
-  kind_of files registry root api always (InRegistry file asked wrong) is = in_registry file wrong (ap (λ (a : List ℕ). InRegistry file a wrong) is.1) is.0 is.2
-  kind_of files registry root api always (InDocument walked) is = in_walk walked refl is.0 is.1
-  kind_of files registry root api always (NotBuilt file number) is = in_lines is.0 is.1 is.2 is.3
-  kind_of files registry root api always (TooManyNames count) is = in_lines is.0 is.1 is.2 is.3
-  kind_of files registry root api always (UnknownOption word) is = absurd is
-  kind_of files registry root api always (NotPermitted option) is = absurd is
-  kind_of files registry root api always (BadTag file number) is = absurd is
-  kind_of files registry root api always (NoNumber needed left) is = absurd is
-
-  same_kinds : (files : Files) (registry : Option (List ℕ)) (root api : List ℕ) (always : List (List ℕ)) (fault other : Fault) → Kinds files registry root api always fault → Kinds files registry root api always other
+  -- a request on a document has one fault, where one at most is told over its registry
+  same_kinds : (IsInner : Rows → List FlatLine → Fault → Type 0) → ((r : Rows) (lines : List FlatLine) (fault other : Fault) → IsInner r lines fault → IsInner r lines other → fault ≡ other)
+      → (files : Files) (registry : Option (List ℕ)) (root api : List ℕ) (always : List (List ℕ)) (fault other : Fault) → Kinds files registry root api always IsInner fault → Kinds files registry root api always IsInner other
       → determined fault ≡ determined other
-  same_kinds files registry root api always fault other (in_registry file wrong is named bad) (in_registry name evil also called worse) =
+  same_kinds IsInner same_inner files registry root api always fault other (in_registry file wrong is named bad) (in_registry name evil also called worse) =
       let same : name ≡ file = same_Some name file (sym called ∙ named) in
       let there : IsRegistryFault (files file) api evil = subst (λ (f : List ℕ). IsRegistryFault (files f) api evil) same worse in
       ap determined is
       ∙ ap (λ (w : RegistryFault). InRegistry file api w) (one_registry_fault one_answer one_rows (files file) api wrong evil bad there)
       ∙ ap (λ (f : List ℕ). InRegistry f api (settled evil)) (sym same)
       ∙ ap determined (sym also)
-  same_kinds files registry root api always fault other (in_registry file wrong is named bad) (in_walk walked also offered broken) =
+  same_kinds IsInner same_inner files registry root api always fault other (in_registry file wrong is named bad) (in_walk walked also offered broken) =
       absurd (sound_registry one_answer one_rows files registry api file wrong offered named bad)
-  same_kinds files registry root api always fault other (in_registry file wrong is named bad) (in_lines r flat checks stands) =
-      absurd (sound_registry one_answer one_rows files registry api file wrong (offered_checked files registry api always flat r checks.over) named bad)
-  same_kinds files registry root api always fault other (in_walk walked is offered broken) (in_registry file wrong also named bad) =
+  same_kinds IsInner same_inner files registry root api always fault other (in_registry file wrong is named bad) (inside r flat subject stands) =
+      absurd (sound_registry one_answer one_rows files registry api file wrong (offered_over files registry api always flat r subject.over) named bad)
+  same_kinds IsInner same_inner files registry root api always fault other (in_walk walked is offered broken) (in_registry file wrong also named bad) =
       absurd (sound_registry one_answer one_rows files registry api file wrong offered named bad)
-  same_kinds files registry root api always fault other (in_walk walked is offered broken) (in_walk rewalked also reoffered rebroken) =
+  same_kinds IsInner same_inner files registry root api always fault other (in_walk walked is offered broken) (in_walk rewalked also reoffered rebroken) =
       ap determined (is ∙ ap InDocument (same_walk_fault files root walked rewalked broken rebroken) ∙ sym also)
-  same_kinds files registry root api always fault other (in_walk walked is offered broken) (in_lines r flat checks stands) = absurd (never_faulty files root flat walked checks.document broken)
-  same_kinds files registry root api always fault other (in_lines r flat checks stands) (in_registry file wrong also named bad) =
-      absurd (sound_registry one_answer one_rows files registry api file wrong (offered_checked files registry api always flat r checks.over) named bad)
-  same_kinds files registry root api always fault other (in_lines r flat checks stands) (in_walk walked also offered broken) = absurd (never_faulty files root flat walked checks.document broken)
-  same_kinds files registry root api always fault other (in_lines r flat checks stands) (in_lines rows others rechecks there) =
-      let same = same_checked files registry root api always r rows flat others checks rechecks in
-      let moved : IsFaultIn r flat other = subst (λ (rs : Rows). IsFaultIn rs flat other) (sym same.1) (subst (λ (ls : List FlatLine). IsFaultIn rows ls other) (sym same.0) there) in
-      ap determined (same_fault_in r flat fault other stands moved)
+  same_kinds IsInner same_inner files registry root api always fault other (in_walk walked is offered broken) (inside r flat subject stands) = absurd (never_faulty files root flat walked subject.document broken)
+  same_kinds IsInner same_inner files registry root api always fault other (inside r flat subject stands) (in_registry file wrong also named bad) =
+      absurd (sound_registry one_answer one_rows files registry api file wrong (offered_over files registry api always flat r subject.over) named bad)
+  same_kinds IsInner same_inner files registry root api always fault other (inside r flat subject stands) (in_walk walked also offered broken) = absurd (never_faulty files root flat walked subject.document broken)
+  same_kinds IsInner same_inner files registry root api always fault other (inside r flat subject stands) (inside rows others resubject there) =
+      let same = same_subject files registry root api always r rows flat others subject resubject in
+      let moved : IsInner r flat other = subst (λ (rs : Rows). IsInner rs flat other) (sym same.1) (subst (λ (ls : List FlatLine). IsInner rows ls other) (sym same.0) there) in
+      ap determined (same_inner r flat fault other stands moved)
 
   pub same_fault : (request : Request) (files : Files) (fault other : Fault) → IsFirstFault request files fault → IsFirstFault request files other → determined fault ≡ determined other
   same_fault (Check registry root api always) files fault other is also =
-      same_kinds files registry root api always fault other (kind_of files registry root api always fault is) (kind_of files registry root api always other also)
+      same_kinds IsFaultIn same_fault_in files registry root api always fault other (kind_of_check files registry root api always fault is) (kind_of_check files registry root api always other also)
+  same_fault (Build registry root api names always) files fault other is also =
+      same_kinds (AtChoice names) (λ r lines fault other. same_fault_at r names fault other) files registry root api always fault other
+      (kind_of_build files registry root api names always fault is) (kind_of_build files registry root api names always other also)
   same_fault (Header registry api names) files fault other is also = same_header_fault one_answer one_rows files registry api names fault other is also
   same_fault (Tag first names) files fault other is also = ap determined (same_tags_fault files first names fault other is also)
 
@@ -204,14 +197,14 @@ abbrev answer_of : List FlatLine → List (List ℕ) → Verdict → Effect
 answer_of lines options verdict = writes_alone (status_of verdict) (report_of lines options verdict)
 
 module _ (one_walk : OneWalk) (one_answer : OneAnswer) (one_rows : AnswersAreOne) (one_pages : OnePages) (one_closures : ClosuresAreOne) (one_orders : OrdersAreOne)
-    (same_count : (always : List (List ℕ)) (r : Rows) (lines : List FlatLine) (links more : ℕ) → IsVerdict (registry_setting always r) lines (Yes links) → IsVerdict (registry_setting always r) lines (Yes more) → links ≡ more)
+    (same_count : (always : List (List ℕ)) (r : Rows) (lines : List FlatLine) (links more : ℕ) → IsJudged always r lines (Yes links) → IsJudged always r lines (Yes more) → links ≡ more)
     (never_both : (always : List (List ℕ)) (r : Rows) (lines : List FlatLine) (links : ℕ) (place : Place) (id : List ℕ) (choice : Choice) (count : ℕ)
-    → IsVerdict (registry_setting always r) lines (Yes links) → ¬ (IsVerdict (registry_setting always r) lines (No place id choice count)))
+    → IsJudged always r lines (Yes links) → ¬ (IsJudged always r lines (No place id choice count)))
     (same_place : (always : List (List ℕ)) (r : Rows) (lines : List FlatLine) (place other : Place) (id name : List ℕ) (choice chosen : Choice) (count counted : ℕ)
-    → IsVerdict (registry_setting always r) lines (No place id choice count) → IsVerdict (registry_setting always r) lines (No other name chosen counted) → place ≡ other)
+    → IsJudged always r lines (No place id choice count) → IsJudged always r lines (No other name chosen counted) → place ≡ other)
     (words : List (List ℕ)) (files : Files) where
   -- two verdicts on a document are told alike
-  verdicts_alike : (always : List (List ℕ)) (r : Rows) (lines : List FlatLine) (verdict other : Verdict) → IsVerdict (registry_setting always r) lines verdict → IsVerdict (registry_setting always r) lines other
+  verdicts_alike : (always : List (List ℕ)) (r : Rows) (lines : List FlatLine) (verdict other : Verdict) → IsJudged always r lines verdict → IsJudged always r lines other
       → AreAlikeOn always r lines (answer_of lines r.options verdict) (answer_of lines r.options other)
   verdicts_alike always r lines (Yes links) (Yes more) is also = record {
     status_is = refl;
@@ -232,7 +225,7 @@ module _ (one_walk : OneWalk) (one_answer : OneAnswer) (one_rows : AnswersAreOne
             id = name;
             choice = chosen;
             count = counted;
-            judged = subst (λ (p : Place). IsVerdict (registry_setting always r) lines (No p name chosen counted)) (sym at) also;
+            judged = subst (λ (p : Place). IsJudged always r lines (No p name chosen counted)) (sym at) also;
             output_is = ap (λ (p : Place). report_of lines r.options (No p name chosen counted)) (sym at);
           },
         );
@@ -244,12 +237,12 @@ module _ (one_walk : OneWalk) (one_answer : OneAnswer) (one_rows : AnswersAreOne
 
   -- two checks of one request
   checks_same : (registry : Option (List ℕ)) (root api : List ℕ) (always : List (List ℕ)) (r rows : Rows) (lines others : List FlatLine) (verdict told : Verdict)
-      → Spells words (Check registry root api always) → IsChecked files registry root api always r lines → IsChecked files registry root api always rows others
-      → IsVerdict (registry_setting always r) lines verdict → IsVerdict (registry_setting always rows) others told
+      → Spells words (Check registry root api always) → IsSubject files registry root api always r lines → IsSubject files registry root api always rows others
+      → IsJudged always r lines verdict → IsJudged always rows others told
       → AreAlike words files (answer_of lines r.options verdict) (answer_of others rows.options told)
   checks_same registry root api always r rows lines others verdict told spelled is also judged said =
-      let same = same_checked one_walk one_answer one_rows files registry root api always r rows lines others is also in
-      let there : IsVerdict (registry_setting always r) lines told = rw (same.0, same.1) said in
+      let same = same_subject one_walk one_answer one_rows files registry root api always r rows lines others is also in
+      let there : IsJudged always r lines told = rw (same.0, same.1) said in
       let alike = verdicts_alike always r lines verdict told judged there in
       let whole : AreAlike words files (answer_of lines r.options verdict) (answer_of lines r.options told) = record {
         status_is = alike.status_is;
@@ -263,19 +256,19 @@ module _ (one_walk : OneWalk) (one_answer : OneAnswer) (one_rows : AnswersAreOne
 
   -- two checks of the same words
   checks_alike : (registry file : Option (List ℕ)) (root name api word : List ℕ) (always names : List (List ℕ)) (r rows : Rows) (lines others : List FlatLine) (verdict told : Verdict)
-      → Spells words (Check registry root api always) → Check file name word names ≡ Check registry root api always → IsChecked files registry root api always r lines → IsChecked files file name word names rows others
-      → IsVerdict (registry_setting always r) lines verdict → IsVerdict (registry_setting names rows) others told
+      → Spells words (Check registry root api always) → Check file name word names ≡ Check registry root api always → IsSubject files registry root api always r lines → IsSubject files file name word names rows others
+      → IsJudged always r lines verdict → IsJudged names rows others told
       → AreAlike words files (answer_of lines r.options verdict) (answer_of others rows.options told)
   checks_alike registry file root name api word always names r rows lines others verdict told spelled same is also judged said =
       let registries : file ≡ registry = cc in
       let roots : name ≡ root = cc in
       let apis : word ≡ api = cc in
       let sets : names ≡ always = cc in
-      let one : IsChecked files registry name word names rows others = subst (λ (f : Option (List ℕ)). IsChecked files f name word names rows others) registries also in
-      let two : IsChecked files registry root word names rows others = subst (λ (f : List ℕ). IsChecked files registry f word names rows others) roots one in
-      let three : IsChecked files registry root api names rows others = subst (λ (f : List ℕ). IsChecked files registry root f names rows others) apis two in
-      let there : IsChecked files registry root api always rows others = subst (λ (f : List (List ℕ)). IsChecked files registry root api f rows others) sets three in
-      checks_same registry root api always r rows lines others verdict told spelled is there judged (subst (λ (f : List (List ℕ)). IsVerdict (registry_setting f rows) others told) sets said)
+      let one : IsSubject files registry name word names rows others = subst (λ (f : Option (List ℕ)). IsSubject files f name word names rows others) registries also in
+      let two : IsSubject files registry root word names rows others = subst (λ (f : List ℕ). IsSubject files registry f word names rows others) roots one in
+      let three : IsSubject files registry root api names rows others = subst (λ (f : List ℕ). IsSubject files registry root f names rows others) apis two in
+      let there : IsSubject files registry root api always rows others = subst (λ (f : List (List ℕ)). IsSubject files registry root api f rows others) sets three in
+      checks_same registry root api always r rows lines others verdict told spelled is there judged (subst (λ (f : List (List ℕ)). IsJudged f rows others told) sets said)
 
   -- words that ask for a check don't ask for tags
   never_both_asked : (registry : Option (List ℕ)) (root api : List ℕ) (always : List (List ℕ)) (first : ℕ) (names : List (List ℕ)) → Spells words (Check registry root api always) → Spells words (Tag first names) → ⊥
@@ -310,6 +303,44 @@ module _ (one_walk : OneWalk) (one_answer : OneAnswer) (one_rows : AnswersAreOne
       let two : IsDeclared files registry api others rows picked listed = subst (λ (f : List ℕ). IsDeclared files registry f others rows picked listed) apis one in
       let there : IsDeclared files registry api names rows picked listed = subst (λ (f : List (List ℕ)). IsDeclared files registry api f rows picked listed) sets two in
       one_header one_answer one_rows one_closures one_orders files registry api names r rows chosen picked order listed is there
+
+  -- words that ask for a text ask for nothing else
+  no_check_built : (registry file : Option (List ℕ)) (root name api word : List ℕ) (names always others : List (List ℕ)) → Spells words (Build registry root api names always) → Spells words (Check file name word others) → ⊥
+  no_check_built registry file root name api word names always others spelled also =
+      let same = same_request words (Build registry root api names always) (Check file name word others) spelled also in cc
+
+  no_header_built : (registry : Option (List ℕ)) (root api file word : List ℕ) (names always others : List (List ℕ)) → Spells words (Build registry root api names always) → Spells words (Header file word others) → ⊥
+  no_header_built registry root api file word names always others spelled also =
+      let same = same_request words (Build registry root api names always) (Header file word others) spelled also in cc
+
+  no_tags_built : (registry : Option (List ℕ)) (root api : List ℕ) (names always : List (List ℕ)) (first : ℕ) (others : List (List ℕ)) → Spells words (Build registry root api names always) → Spells words (Tag first others) → ⊥
+  no_tags_built registry root api names always first others spelled also =
+      let same = same_request words (Build registry root api names always) (Tag first others) spelled also in cc
+
+  -- two texts for one request
+  texts_same : (registry file : Option (List ℕ)) (root name api word : List ℕ) (names set_names always set_always : List (List ℕ)) (r rows : Rows) (lines others : List FlatLine) (chosen picked set filled : List Bool)
+      → Build file name word set_names set_always ≡ Build registry root api names always → IsBuilt files registry root api names always r lines chosen set → IsBuilt files file name word set_names set_always rows others picked filled
+      → choice_text always r chosen set lines ≡ choice_text set_always rows picked filled others
+  texts_same registry file root name api word names set_names always set_always r rows lines others chosen picked set filled same is also =
+      let registries : file ≡ registry = cc in
+      let roots : name ≡ root = cc in
+      let apis : word ≡ api = cc in
+      let words_are : set_names ≡ names = cc in
+      let sets : set_always ≡ always = cc in
+      let one : IsBuilt files registry name word set_names set_always rows others picked filled = subst (λ (f : Option (List ℕ)). IsBuilt files f name word set_names set_always rows others picked filled) registries also in
+      let two : IsBuilt files registry root word set_names set_always rows others picked filled = subst (λ (f : List ℕ). IsBuilt files registry f word set_names set_always rows others picked filled) roots one in
+      let three : IsBuilt files registry root api set_names set_always rows others picked filled = subst (λ (f : List ℕ). IsBuilt files registry root f set_names set_always rows others picked filled) apis two in
+      let four : IsBuilt files registry root api names set_always rows others picked filled = subst (λ (f : List (List ℕ)). IsBuilt files registry root api f set_always rows others picked filled) words_are three in
+      let there : IsBuilt files registry root api names always rows others picked filled = subst (λ (f : List (List ℕ)). IsBuilt files registry root api names f rows others picked filled) sets four in
+      let subjects = same_subject one_walk one_answer one_rows files registry root api always r rows lines others is.subject there.subject in
+      let choices : picked ≡ chosen = there.choice.named ∙ ap (λ (rs : Rows). chosen_by rs.options names) (sym subjects.1) ∙ sym is.choice.named in
+      let closure : IsClosure r chosen filled = subst (λ (c : List Bool). IsClosure r c filled) choices (subst (λ (rs : Rows). IsClosure rs picked filled) (sym subjects.1) there.closure) in
+      let closures : set ≡ filled = one_closures r chosen set filled is.closure closure in
+      ap (λ (f : List (List ℕ)). choice_text f r chosen set lines) (sym sets)
+      ∙ ap (λ (rs : Rows). choice_text set_always rs chosen set lines) subjects.1
+      ∙ ap (λ (c : List Bool). choice_text set_always rows c set lines) (sym choices)
+      ∙ ap (λ (c : List Bool). choice_text set_always rows picked c lines) closures
+      ∙ ap (choice_text set_always rows picked filled) subjects.0
 
   -- two outcomes are alike
   outcomes_alike : (effect other : Effect) → Outcome words files effect → Outcome words files other → AreAlike words files effect other
@@ -360,6 +391,28 @@ module _ (one_walk : OneWalk) (one_answer : OneAnswer) (one_rows : AnswersAreOne
   outcomes_alike _ _ (headed registry api names r chosen order spelled sound tells) (headed file word others rows picked listed also right said) =
       same_alike words files (writes_alone Done (header r chosen order)) (writes_alone Done (header rows picked listed)) (λ e. cc)
       (ap (writes_alone Done) (headers_same registry file api word names others r rows chosen picked order listed (same_request words (Header file word others) (Header registry api names) also spelled) tells said))
+  outcomes_alike _ _ (misplaced position is) (texted registry root api names always r lines chosen set spelled sound tells) = absurd (is.none (Build registry root api names always) spelled)
+  outcomes_alike _ _ (refused request fault spelled flawed) (texted registry root api names always r lines chosen set also sound tells) =
+      absurd (never_refused request (Build registry root api names always) fault spelled also flawed sound)
+  outcomes_alike _ _ (checked registry root api always r lines verdict spelled sound made judged) (texted file name word names others rows flat chosen set also right tells) =
+      absurd (no_check_built file registry name root word api names others always also spelled)
+  outcomes_alike _ _ (tagged first others pages spelled sound said) (texted registry root api names always r lines chosen set also right tells) =
+      absurd (no_tags_built registry root api names always first others also spelled)
+  outcomes_alike _ _ (headed file word others r chosen order spelled sound tells) (texted registry root api names always rows lines picked set also right said) =
+      absurd (no_header_built registry root api file word names always others also spelled)
+  outcomes_alike _ _ (texted registry root api names always r lines chosen set spelled sound tells) (misplaced position is) = absurd (is.none (Build registry root api names always) spelled)
+  outcomes_alike _ _ (texted registry root api names always r lines chosen set spelled sound tells) (refused request fault also flawed) =
+      absurd (never_refused request (Build registry root api names always) fault also spelled flawed sound)
+  outcomes_alike _ _ (texted file name word names others rows flat chosen set spelled sound tells) (checked registry root api always r lines verdict also right made judged) =
+      absurd (no_check_built file registry name root word api names others always spelled also)
+  outcomes_alike _ _ (texted registry root api names always r lines chosen set spelled sound tells) (tagged first others pages also right said) =
+      absurd (no_tags_built registry root api names always first others spelled also)
+  outcomes_alike _ _ (texted registry root api names always rows lines picked set spelled sound said) (headed file word others r chosen order also right tells) =
+      absurd (no_header_built registry root api file word names always others spelled also)
+  outcomes_alike _ _ (texted registry root api names always r lines chosen set spelled sound tells) (texted file name word set_names set_always rows others picked filled also right said) =
+      same_alike words files (writes_alone Done (choice_text always r chosen set lines)) (writes_alone Done (choice_text set_always rows picked filled others)) (λ e. cc)
+      (ap (writes_alone Done) (texts_same registry file root name api word names set_names always set_always r rows lines others chosen picked set filled
+      (same_request words (Build file name word set_names set_always) (Build registry root api names always) also spelled) tells said))
 
   pub same_status : (effect other : Effect) → Outcome words files effect → Outcome words files other → effect.status ≡ other.status
   same_status effect other is also = (outcomes_alike effect other is also).status_is

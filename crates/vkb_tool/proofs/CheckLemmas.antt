@@ -6,7 +6,7 @@ use Rattle.std.specs.Cmp.Lexicographic.{bytes_decides}
 use Rattle.std.proofs.lemmas.List.Folds.{Any-from_list_any, list_any_at}
 use Rattle.std.proofs.lemmas.Bool.{false_from_ne_true, false≢true}
 use Rattle.std.proofs.lemmas.Bool.Decides.{nat_tests}
-use Rattle.std.proofs.lemmas.List.Elements.{All-contains, All-from_get_or, All-get_or, Contains-append_right}
+use Rattle.std.proofs.lemmas.List.Elements.{All-contains, All-from_get_or, All-get_or, All-weaker, Contains-append_right}
 use Rattle.std.proofs.lemmas.List.{length-map, get_or-map}
 use Rattle.std.proofs.lemmas.List.Quantifiers.{position-Some}
 use Rattle.std.proofs.lemmas.List.Sums.{fails_before_first}
@@ -15,10 +15,11 @@ use Rattle.doc_cond.specs.declared.LineKind.{LineKind}
 use Rattle.doc_cond.specs.declared.LineKind.TheVariants.{Plain, Comment, Other, Begin, OneLine, Close, Chapter, Api, Validity, Refpage}
 use Rattle.doc_tree.specs.Flat.{FlatLine, is_among}
 use Rattle.reg_registry.specs.Rows.{Rows}
-use Rattle.doc_build.specs.Choices.{registry_setting}
+use Rattle.doc_build.specs.Choices.{pageless_setting}
 use Rattle.doc_build.specs.Ids.{page_set}
 use Rattle.doc_build.specs.Laws.{SetsNoPage}
 use Rattle.doc_build.specs.Pieces.{Link, all_links}
+use Rattle.doc_build.specs.Settings.{IncludeNoPage, includes_page}
 use Rattle.doc_build.specs.declared.Place.{Place}
 use Rattle.vkb_tool.specs.Check.{NamesWithin}
 use Rattle.doc_tree.specs.declared.DocLine.{DocLine}
@@ -107,6 +108,24 @@ no_pages_set declared (first ∷ lines) built =
     All-from_get_or (λ (l : FlatLine). page_set l.kind ≡ []) (first ∷ lines) first
     (λ k below. no_page declared (get_or (first ∷ lines) k first).kind (All-get_or (λ (l : FlatLine). is_unbuilt declared l.kind ≡ false) (first ∷ lines) k first below built))
 
+-- a built kind includes no page of a declared name
+no_include : (declared : List (List ℕ)) (kind : LineKind) → is_unbuilt declared kind ≡ false → includes_page declared kind ≡ false
+no_include declared Plain built = refl
+no_include declared Comment built = refl
+no_include declared Other built = refl
+no_include declared (Begin negated any names) built = refl
+no_include declared (OneLine negated any names from to) built = refl
+no_include declared (Close any names) built = refl
+no_include declared (Chapter file) built = refl
+no_include declared (Api name) built = built
+no_include declared (Validity name) built = built
+no_include declared (Refpage name) built = refl
+
+-- lines that are built include no page of a declared name
+pub no_pages_included : (r : Rows) (lines : List FlatLine) → AreBuilt r.names lines → IncludeNoPage r lines
+no_pages_included r lines built =
+    All-weaker (λ line. is_unbuilt r.names line.kind ≡ false) (λ line. includes_page r.names line.kind ≡ false) (λ line is. no_include r.names line.kind is) lines built
+
 -- lines that are built, over a registry of few options, have no fault
 pub nothing_wrong : (r : Rows) (lines : List FlatLine) → AreBuilt r.names lines → length r.options ≤ most_options → (fault : Fault) → ¬ IsFaultIn r lines fault
 nothing_wrong r lines built few (InRegistry file api fault) is = is
@@ -126,12 +145,12 @@ nothing_wrong r lines built few (TooManyNames count) (also, many) =
     omega arith
 
 -- the link that a verdict names is in a line, and its choice has a value for each option
-pub names_within : (always : List (List ℕ)) (r : Rows) (lines : List FlatLine) (count : ℕ) → All (λ link. link.place.line < length lines) (all_links (registry_setting always r) lines)
-    → count ≡ length lines → (verdict : Verdict) → IsVerdict (registry_setting always r) lines verdict → NamesWithin count (length r.options) verdict
+pub names_within : (always : List (List ℕ)) (r : Rows) (lines : List FlatLine) (count : ℕ) → All (λ link. link.place.line < length lines) (all_links (pageless_setting always r) lines)
+    → count ≡ length lines → (verdict : Verdict) → IsVerdict (pageless_setting always r) lines verdict → NamesWithin count (length r.options) verdict
 names_within always r lines count there counted (Yes links) is = tt
 names_within always r lines count there counted (No place id choice broken) is =
     let among : Contains (is.before ++ is.link ∷ is.after) is.link = Contains-append_right is.before (is.link ∷ is.after) is.link (0, omega arith, refl) in
-    let links = all_links (registry_setting always r) lines in
+    let links = all_links (pageless_setting always r) lines in
     let below : is.link.place.line < length lines = All-contains (λ (l : Link). l.place.line < length lines) links is.link there (subst (λ (ls : List Link). Contains ls is.link) (sym is.here) among) in
     let at : place.line ≡ is.link.place.line = ap (λ (p : Place). p.line) is.place_is in
     (omega arith, is.permitted.0)

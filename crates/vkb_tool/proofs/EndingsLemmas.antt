@@ -10,7 +10,7 @@ use Rattle.vkb_tool.specs.declared.answer.Answer.{Answer}
 use Rattle.vkb_tool.specs.declared.words.Request.{Request}
 use Rattle.vkb_tool.specs.Answer.{AnswersMisplaced, AnswersRequest, AnswersWords, ArePut, Delivers, IsRequestStatus, IsUnput, delivered, undelivered, unready, unwritten, effect_of}
 use Rattle.vkb_tool.specs.Endings.{World, HoldsFiles, Ending, IsAlways, IsCarriedOut, IsComplete, IsUnfailing, IsUntouched, EndsMisplaced, RunsOut, completes, fails_reading, fails_putting, fails_writing, runs_out, files_after}
-use Rattle.vkb_tool.specs.Outcome.{Effect, HasNoFault, Outcome, Put, checked, declared, misplaced, refused, tagged}
+use Rattle.vkb_tool.specs.Outcome.{Effect, HasNoFault, Outcome, Put, built, checked, declared, misplaced, refused, tagged}
 use Rattle.vkb_tool.specs.Words.{Spells, IsMisplaced}
 use Rattle.vkb_tool.proofs.WordsLemmas.{one_position, same_request}
 
@@ -27,6 +27,7 @@ answered words files effect (refused other fault asked is) request spelled fault
     absurd (none fault is)
 answered words files effect (checked registry root api always r lines (Yes links) asked none is judged) request spelled faults = inl refl
 answered words files effect (checked registry root api always r lines (No place id choice count) asked none is judged) request spelled faults = inr refl
+answered words files effect (built registry root api names always r lines chosen set asked none tells) request spelled faults = inl refl
 answered words files effect (declared registry api names r chosen order asked none tells) request spelled faults = inl refl
 answered words files effect (tagged first names pages asked none tells) request spelled faults = inl refl
 

@@ -4,19 +4,20 @@ use Rattle.std.specs.Str.{is_utf8}
 use Rattle.std.specs.Cmp.Lexicographic.{bytes_decides}
 use Rattle.std.specs.Str.{bytes_eq}
 use Rattle.std.proofs.lemmas.Bool.{cases_Bool, cases_eq, cases_lt, false≢true}
-use Rattle.std.proofs.lemmas.List.{append-nil, length-append, length-take, map_push, take-append-drop}
+use Rattle.std.proofs.lemmas.List.{append-nil, length-append, length-take, map_push, take-append-drop, take_all}
 use Rattle.std.proofs.lemmas.List.Elements.{All-nil, All-push}
-use Rattle.std.proofs.lemmas.Option.{none-some, same_Some, slice_get_within}
+use Rattle.std.proofs.lemmas.Option.{none-some, same_Some, slice_get_past, slice_get_within}
 use Rattle.std.proofs.lemmas.Str.{IsUtf8-from_is_utf8, is_utf8-from_IsUtf8}
 use Rattle.doc_cond.specs.Lines.{is_name_byte, is_run}
 use Rattle.vkb_bytes.specs.Numbers.{numeral_of}
 use Rattle.vkb_formula.specs.Names.{AreDifferent}
-use Rattle.vkb_tool.specs.Reading.{IsNoAttribute, IsNoFile, IsNoOption, IsNumbered, IsRegistryNamed, NamesOptions, SetsAttributes, goes_with, registry_by}
+use Rattle.vkb_tool.specs.Reading.{IsNoAttribute, IsNoFile, IsNumbered, IsRegistryNamed, LeadsOptions, SetsAttributes, goes_with, registry_by}
 use Rattle.vkb_tool.specs.Words.{IsApiName, IsApiOf, IsAttribute, IsFileName, IsMisplaced, IsOptionWord, Spells, WritesFirst, attribute_word, is_api_byte, names_option}
 use Rattle.vkb_tool.specs.declared.words.Request.{Request}
-use Rattle.vkb_tool.specs.declared.words.Request.TheVariants.{Check, Header, Tag}
-use Rattle.vkb_tool.proofs.WordsLemmas.{check_words, front_4, goes_back, misplaced_first, misplaced_fourth, misplaced_second, misplaced_third, no_attribute_at}
-use Rattle.vkb_tool.proofs.HeaderWordsLemmas.{header_3, header_words, no_api, no_option_at, no_registry}
+use Rattle.vkb_tool.specs.declared.words.Request.TheVariants.{Build, Check, Header, Tag}
+use Rattle.vkb_tool.proofs.WordsLemmas.{AsksOfDocuments, check_asks, document_words, front_4, goes_back, misplaced_first, misplaced_fourth, misplaced_second, misplaced_third, no_attribute_at}
+use Rattle.vkb_tool.proofs.BuildWordsLemmas.{all_set, build_asks, no_set_at}
+use Rattle.vkb_tool.proofs.HeaderWordsLemmas.{all_options, header_3, header_words, no_api, no_option_at, no_registry}
 use Rattle.vkb_tool.proofs.TagWordsLemmas.{first_two, no_file_at, no_file_named, no_number, tag_words}
 
 -- bytes are the same or not
@@ -67,10 +68,10 @@ taken_front : (front rest : List (List ℕ)) → take (length front) (front ++ r
 taken_front [] rest = refl
 taken_front (first ∷ front) rest = ap (λ (ws : List (List ℕ)). first ∷ ws) (taken_front front rest)
 
--- a word behind four and those that set some attributes, which sets none
-no_attribute : (words front names rest : List (List ℕ)) (word : List ℕ) → front ≡ take 4 words ++ map attribute_word names → 4 ≤ length front → All IsAttribute names
-    → words ≡ front ++ word ∷ rest → ((name : List ℕ) → IsAttribute name → word ≢ attribute_word name) → IsNoAttribute words (length front + 1)
-no_attribute words front names rest word front_is four set split none =
+-- a word behind so many and those that set some attributes, which sets none
+no_attribute : (from : ℕ) (words front names rest : List (List ℕ)) (word : List ℕ) → front ≡ take from words ++ map attribute_word names → from ≤ length front → All IsAttribute names
+    → words ≡ front ++ word ∷ rest → ((name : List ℕ) → IsAttribute name → word ≢ attribute_word name) → IsNoAttribute from words (length front + 1)
+no_attribute from words front names rest word front_is behind set split none =
     let back : length front + 1 - 1 ≡ length front = omega arith in
     let before : take (length front) words ≡ front = ap (take (length front)) split ∙ taken_front front (word ∷ rest) in
     let read : slice_get words (length front) ≡ Some word = ap (λ (ws : List (List ℕ)). slice_get ws (length front)) split ∙ word_behind front rest word in
@@ -85,36 +86,26 @@ no_attribute words front names rest word front_is four set split none =
     }
 
 -- the words behind some set attributes, or one is the first that sets none
-read_rest : (words front names rest : List (List ℕ)) → front ≡ take 4 words ++ map attribute_word names → 4 ≤ length front → All IsAttribute names → words ≡ front ++ rest
-    → ((all : List (List ℕ)) × SetsAttributes words all) ⊎ ((position : ℕ) × IsNoAttribute words position)
-read_rest words front names [] front_is four set split = inl (names, record { names_are = set; words_are = split ∙ append-nil front ∙ front_is })
-read_rest words front names (word ∷ rest) front_is four set split =
+read_rest : (from : ℕ) (words front names rest : List (List ℕ)) → front ≡ take from words ++ map attribute_word names → from ≤ length front → All IsAttribute names → words ≡ front ++ rest
+    → ((all : List (List ℕ)) × SetsAttributes from words all) ⊎ ((position : ℕ) × IsNoAttribute from words position)
+read_rest from words front names [] front_is behind set split = inl (names, record { names_are = set; words_are = split ∙ append-nil front ∙ front_is })
+read_rest from words front names (word ∷ rest) front_is behind set split =
     elim (sets_or_not word) [
-      | inr none ↦ inr (length front + 1, no_attribute words front names rest word front_is four set split none)
+      | inr none ↦ inr (length front + 1, no_attribute from words front names rest word front_is behind set split none)
       | inl found ↦
           let more = names ++ found.0 ∷ [] in
-          let longer : front ++ word ∷ [] ≡ take 4 words ++ map attribute_word more =
+          let longer : front ++ word ∷ [] ≡ take from words ++ map attribute_word more =
           ap (λ (ws : List (List ℕ)). ws ++ word ∷ []) front_is
-          ∙ append_assoc (take 4 words) (map attribute_word names) (word ∷ [])
-          ∙ ap (λ (w : List ℕ). take 4 words ++ (map attribute_word names ++ w ∷ [])) found.2
-          ∙ ap (λ (ws : List (List ℕ)). take 4 words ++ ws) (sym (map_push attribute_word names found.0)) in
-          let long : 4 ≤ length (front ++ word ∷ []) = simp length-append (omega arith) in
-          read_rest words (front ++ word ∷ []) more rest longer long (All-push IsAttribute names found.0 set found.1) (split ∙ sym (append_assoc front (word ∷ []) rest))
+          ∙ append_assoc (take from words) (map attribute_word names) (word ∷ [])
+          ∙ ap (λ (w : List ℕ). take from words ++ (map attribute_word names ++ w ∷ [])) found.2
+          ∙ ap (λ (ws : List (List ℕ)). take from words ++ ws) (sym (map_push attribute_word names found.0)) in
+          let long : from ≤ length (front ++ word ∷ []) = simp length-append (omega arith) in
+          read_rest from words (front ++ word ∷ []) more rest longer long (All-push IsAttribute names found.0 set found.1) (split ∙ sym (append_assoc front (word ∷ []) rest))
     ]
 
--- words whose first four are those of a check
-read_attributes : (words : List (List ℕ)) (registry : Option (List ℕ)) (root api : List ℕ) → IsApiOf registry api → IsFileName root → take 4 words ≡ check_words registry root api [] → 4 ≤ length words
-    → ((request : Request) × Spells words request) ⊎ ((position : ℕ) × IsMisplaced words position)
-read_attributes words registry root api goes name front four =
-    let long : 4 ≤ length (take 4 words) = simp length-take (omega arith) in
-    elim (read_rest words (take 4 words) [] (drop 4 words) (sym (append-nil (take 4 words))) long (All-nil IsAttribute) (sym (take-append-drop 4 words))) [
-      | inl found ↦
-          inl (
-            Check registry root api found.0,
-            (goes, name, found.1.names_are, found.1.words_are ∙ ap (λ (ws : List (List ℕ)). ws ++ map attribute_word found.0) front),
-          )
-      | inr wrong ↦ inr (wrong.0, no_attribute_at words registry root api wrong.0 goes name front wrong.1)
-    ]
+read_attributes : (from : ℕ) (words : List (List ℕ)) → from ≤ length words → ((all : List (List ℕ)) × SetsAttributes from words all) ⊎ ((position : ℕ) × IsNoAttribute from words position)
+read_attributes from words enough =
+    read_rest from words (take from words) [] (drop from words) (sym (append-nil (take from words))) (simp length-take (omega arith)) (All-nil IsAttribute) (sym (take-append-drop from words))
 
 -- what is found is an API that goes with the word of a registry, or not
 goes_or_not : (found : Option (List ℕ)) (registry : List ℕ) → ((api : List ℕ) × (found ≡ Some api) × (goes_with registry api ≡ true)) ⊎ ((api : List ℕ) → found ≡ Some api → ¬ (goes_with registry api ≡ true))
@@ -125,20 +116,35 @@ goes_or_not (Some api) registry =
       | inr not_so ↦ inr (λ other e is. false≢true (sym not_so ∙ ap (goes_with registry) (same_Some api other e) ∙ is))
     ]
 
--- the words of a check, or one of them is the first that has no place
-every_check : (words : List (List ℕ)) → slice_get words 0 ≡ Some (codes "check") → ((request : Request) × Spells words request) ⊎ ((position : ℕ) × IsMisplaced words position)
-every_check words first =
+-- words are those of a request, or one of them is the first that has no place
+abbrev pub IsRead : List (List ℕ) → Type 0
+IsRead words = ((request : Request) × Spells words request) ⊎ ((position : ℕ) × IsMisplaced words position)
+
+-- the first four words are those of a request on a document, or one of them is the first that has no place
+every_document : (verb : List ℕ) (asks : AsksOfDocuments verb) (words : List (List ℕ)) → slice_get words 0 ≡ Some verb
+    → ((registry : Option (List ℕ)) (root api : List ℕ) → IsApiOf registry api → IsFileName root → take 4 words ≡ document_words verb registry root api [] → 4 ≤ length words → IsRead words) → IsRead words
+every_document verb asks words first behind =
     elim (named_or_not (slice_get words 1)) [
-      | inr not_so ↦ inr (2, misplaced_second words first (λ name is. not_so name is.0 is.1))
+      | inr not_so ↦ inr (2, misplaced_second verb asks words first (λ name is. not_so name is.0 is.1))
       | inl (registry, second, file) ↦ elim (named_or_not (slice_get words 2)) [
-        | inr not_so ↦ inr (3, misplaced_third words registry first (second, file) (λ name is. not_so name is.0 is.1))
+        | inr not_so ↦ inr (3, misplaced_third verb asks words first registry (second, file) (λ name is. not_so name is.0 is.1))
         | inl (root, third, name) ↦ elim (goes_or_not (slice_get words 3) registry) [
-          | inr not_so ↦ inr (4, misplaced_fourth words registry root first (second, file) (third, name) (λ api is. not_so api is.0 is.1))
+          | inr not_so ↦ inr (4, misplaced_fourth verb asks words first registry root (second, file) (third, name) (λ api is. not_so api is.0 is.1))
           | inl (api, fourth, goes) ↦
-              read_attributes words (registry_by registry) root api (goes_back registry api file goes) name (front_4 words registry root api first second third fourth) (slice_get_within words 3 api fourth)
+              let within = slice_get_within words 3 api fourth in
+              behind (registry_by registry) root api (goes_back registry api file goes) name (front_4 verb words first registry root api second third fourth) (omega arith)
         ]
       ]
     ]
+
+-- the words of a check, or one of them is the first that has no place
+every_check : (words : List (List ℕ)) → slice_get words 0 ≡ Some (codes "check") → IsRead words
+every_check words first =
+    every_document (codes "check") check_asks words first (λ registry root api goes name front four.
+    elim (read_attributes 4 words four) [
+      | inl (always, set) ↦ inl (Check registry root api always, (goes, name, set.names_are, set.words_are ∙ ap (λ (ws : List (List ℕ)). ws ++ map attribute_word always) front))
+      | inr (position, wrong) ↦ inr (position, no_attribute_at words registry root api position goes name front wrong)
+    ])
 
 -- ---- a request to tag
 
@@ -260,7 +266,7 @@ read_names words front names (word ∷ rest) front_is two named different split 
     ]
 
 -- the words of a request to tag, or one of them is the first that has no place
-every_tag : (words : List (List ℕ)) → slice_get words 0 ≡ Some (codes "tag") → ((request : Request) × Spells words request) ⊎ ((position : ℕ) × IsMisplaced words position)
+every_tag : (words : List (List ℕ)) → slice_get words 0 ≡ Some (codes "tag") → IsRead words
 every_tag words tag =
     elim (numbered_or_not words) [
       | inr none ↦ inr (2, no_number words tag none)
@@ -287,36 +293,57 @@ option_or_not word =
       | inr not_so ↦ inr (λ is. false≢true (sym not_so ∙ is))
     ]
 
--- a word behind three and some for options, which is none
-no_option : (words front names rest : List (List ℕ)) (word : List ℕ) → front ≡ take 3 words ++ names → 3 ≤ length front → All IsOptionWord names → words ≡ front ++ word ∷ rest → ¬ IsOptionWord word
-    → IsNoOption words (length front + 1)
-no_option words front names rest word front_is three set split none =
-    let back : length front + 1 - 1 ≡ length front = omega arith in
-    let before : take (length front) words ≡ front = ap (take (length front)) split ∙ taken_front front (word ∷ rest) in
-    let read : slice_get words (length front) ≡ Some word = ap (λ (ws : List (List ℕ)). slice_get ws (length front)) split ∙ word_behind front rest word in
-    let inside = slice_get_within words (length front) word read in
-    record {
-      names = names;
-      names_are = set;
-      before = rw back (before ∙ front_is);
-      behind = omega arith;
-      within = omega arith;
-      here = λ name is e. none (subst IsOptionWord (sym (same_Some word name (sym read ∙ ap (slice_get words) (sym back) ∙ e))) is);
-    }
-
--- the words behind three are all for options, or one is the first that is none
-read_options : (words front names rest : List (List ℕ)) → front ≡ take 3 words ++ names → 3 ≤ length front → All IsOptionWord names → words ≡ front ++ rest
-    → ((all : List (List ℕ)) × NamesOptions words all) ⊎ ((position : ℕ) × IsNoOption words position)
-read_options words front names [] front_is three set split = inl (names, record { names_are = set; words_are = split ∙ append-nil front ∙ front_is })
-read_options words front names (word ∷ rest) front_is three set split =
+-- behind so many words and some for options others stand
+leads_behind : (from : ℕ) (words front names rest : List (List ℕ)) → front ≡ take from words ++ names → from + length names ≡ length front → All IsOptionWord names → words ≡ front ++ rest
+    → (all : List (List ℕ)) × LeadsOptions from words all
+leads_behind from words front names [] front_is count set split =
+    let whole : words ≡ front = split ∙ append-nil front in
+    let long : length words ≤ from + length names = let same = ap length whole in omega arith in (
+      names,
+      record {
+        names_are = set;
+        words_are = take_all (from + length names) words long ∙ whole ∙ front_is;
+        within = let same = ap length whole in omega arith;
+        next = λ name is e. none-some name (sym (slice_get_past words (from + length names) long) ∙ e);
+      },
+    )
+leads_behind from words front names (word ∷ rest) front_is count set split =
     elim (option_or_not word) [
-      | inr none ↦ inr (length front + 1, no_option words front names rest word front_is three set split none)
+      | inr none ↦
+          let read : slice_get words (from + length names) ≡ Some word =
+          ap (slice_get words) count ∙ ap (λ (ws : List (List ℕ)). slice_get ws (length front)) split ∙ word_behind front rest word in
+          let inside = slice_get_within words (from + length names) word read in (
+            names,
+            record {
+              names_are = set;
+              words_are = ap (λ (n : ℕ). take n words) count ∙ ap (take (length front)) split ∙ taken_front front (word ∷ rest) ∙ front_is;
+              within = omega arith;
+              next = λ name is e. none (subst IsOptionWord (sym (same_Some word name (sym read ∙ e))) is);
+            },
+          )
       | inl is ↦
           let more = names ++ word ∷ [] in
-          let longer : front ++ word ∷ [] ≡ take 3 words ++ more = ap (λ (ws : List (List ℕ)). ws ++ word ∷ []) front_is ∙ append_assoc (take 3 words) names (word ∷ []) in
-          let long : 3 ≤ length (front ++ word ∷ []) = simp length-append (omega arith) in
-          read_options words (front ++ word ∷ []) more rest longer long (All-push IsOptionWord names word set is) (split ∙ sym (append_assoc front (word ∷ []) rest))
+          let longer : front ++ word ∷ [] ≡ take from words ++ more = ap (λ (ws : List (List ℕ)). ws ++ word ∷ []) front_is ∙ append_assoc (take from words) names (word ∷ []) in
+          let counted : from + length more ≡ length (front ++ word ∷ []) = simp length-append (omega arith) in
+          leads_behind from words (front ++ word ∷ []) more rest longer counted (All-push IsOptionWord names word set is) (split ∙ sym (append_assoc front (word ∷ []) rest))
     ]
+
+-- behind so many words some for options stand, or none
+leads : (from : ℕ) (words : List (List ℕ)) → from ≤ length words → (all : List (List ℕ)) × LeadsOptions from words all
+leads from words enough =
+    leads_behind from words (take from words) [] (drop from words) (sym (append-nil (take from words))) (simp length-take (omega arith)) (All-nil IsOptionWord) (sym (take-append-drop from words))
+
+-- the words of a request to build, or one of them is the first that has no place
+every_build : (words : List (List ℕ)) → slice_get words 0 ≡ Some (codes "build") → IsRead words
+every_build words first =
+    every_document (codes "build") build_asks words first (λ registry root api goes name front four.
+    let found = leads 4 words four in
+    let names = found.0 in
+    let options = found.1 in
+    elim (read_attributes (4 + length names) words options.within) [
+      | inl (always, set) ↦ inl (Build registry root api names always, (goes, name, options.names_are, set.names_are, all_set words registry root api names always front options set.words_are))
+      | inr (position, wrong) ↦ inr (position, no_set_at words registry root api names position goes name front options wrong)
+    ])
 
 -- what is found is the name of an API or not
 api_or_not : (found : Option (List ℕ)) → ((api : List ℕ) × (found ≡ Some api) × IsApiName api) ⊎ ((api : List ℕ) → found ≡ Some api → ¬ IsApiName api)
@@ -328,17 +355,18 @@ api_or_not (Some word) =
     ]
 
 -- the words behind the first three of a request for a header
-every_option : (words : List (List ℕ)) (registry api : List ℕ) → IsApiOf (Some registry) api → take 3 words ≡ header_words registry api [] → 3 ≤ length words
-    → ((request : Request) × Spells words request) ⊎ ((position : ℕ) × IsMisplaced words position)
+every_option : (words : List (List ℕ)) (registry api : List ℕ) → IsApiOf (Some registry) api → take 3 words ≡ header_words registry api [] → 3 ≤ length words → IsRead words
 every_option words registry api goes front three =
-    let long : 3 ≤ length (take 3 words) = simp length-take (omega arith) in
-    elim (read_options words (take 3 words) [] (drop 3 words) (sym (append-nil (take 3 words))) long (All-nil IsOptionWord) (sym (take-append-drop 3 words))) [
-      | inl (names, is) ↦ inl (Header registry api names, (goes, is.names_are, is.words_are ∙ ap (λ (ws : List (List ℕ)). ws ++ names) front))
-      | inr (position, wrong) ↦ inr (position, no_option_at words registry api position goes front wrong)
+    let found = leads 3 words three in
+    let names = found.0 in
+    let options = found.1 in
+    elim (cases_lt (3 + length names) (length words)) [
+      | inl more ↦ inr (3 + length names + 1, no_option_at words registry api names goes front options more)
+      | inr whole ↦ inl (Header registry api names, (goes, options.names_are, all_options words registry api names front options whole))
     ]
 
 -- the words behind the first two
-every_api : (words : List (List ℕ)) (registry : List ℕ) → slice_get words 0 ≡ Some (codes "header") → IsRegistryNamed words registry → ((request : Request) × Spells words request) ⊎ ((position : ℕ) × IsMisplaced words position)
+every_api : (words : List (List ℕ)) (registry : List ℕ) → slice_get words 0 ≡ Some (codes "header") → IsRegistryNamed words registry → IsRead words
 every_api words registry first second =
     elim (api_or_not (slice_get words 2)) [
       | inr none ↦ inr (3, no_api words registry first second (λ api is. none api is.0 is.1))
@@ -348,7 +376,7 @@ every_api words registry first second =
     ]
 
 -- the words of a request for a header, or one of them is the first that has no place
-every_header : (words : List (List ℕ)) → slice_get words 0 ≡ Some (codes "header") → ((request : Request) × Spells words request) ⊎ ((position : ℕ) × IsMisplaced words position)
+every_header : (words : List (List ℕ)) → slice_get words 0 ≡ Some (codes "header") → IsRead words
 every_header words first =
     elim (named_or_not (slice_get words 1)) [
       | inr none ↦ inr (2, no_registry words first (λ name is. none name is.0.0 is.0.1))
@@ -359,15 +387,18 @@ every_header words first =
     ]
 
 -- each list of words is those of a request, or one of them is the first that has no place
-pub every_request : (words : List (List ℕ)) → ((request : Request) × Spells words request) ⊎ ((position : ℕ) × IsMisplaced words position)
+pub every_request : (words : List (List ℕ)) → IsRead words
 every_request words =
     elim (is_or_not (slice_get words 0) (codes "check")) [
       | inl check ↦ every_check words check
-      | inr no_check ↦ elim (is_or_not (slice_get words 0) (codes "header")) [
-        | inl header ↦ every_header words header
-        | inr no_header ↦ elim (is_or_not (slice_get words 0) (codes "tag")) [
-          | inl tag ↦ every_tag words tag
-          | inr no_tag ↦ inr (1, misplaced_first words no_check no_header no_tag)
+      | inr no_check ↦ elim (is_or_not (slice_get words 0) (codes "build")) [
+        | inl build ↦ every_build words build
+        | inr no_build ↦ elim (is_or_not (slice_get words 0) (codes "header")) [
+          | inl header ↦ every_header words header
+          | inr no_header ↦ elim (is_or_not (slice_get words 0) (codes "tag")) [
+            | inl tag ↦ every_tag words tag
+            | inr no_tag ↦ inr (1, misplaced_first words no_check no_build no_header no_tag)
+          ]
         ]
       ]
     ]

@@ -9,7 +9,7 @@ use Rattle.reg_registry.specs.Laws.{AreWithin}
 use Rattle.reg_registry.specs.Rows.{Rows}
 use Rattle.reg_permit.specs.Laws.{PermittedOrNot}
 use Rattle.reg_permit.specs.Permitted.{IsPermitted}
-use Rattle.doc_build.specs.Choices.{Choice, registry_setting}
+use Rattle.doc_build.specs.Choices.{Choice, pageless_setting}
 use Rattle.doc_build.specs.Pieces.{Link, all_links, count_of, link_id, links_of, pieces_of}
 use Rattle.lift_check.specs.Verdict.{IsVerdict}
 use Rattle.lift_check.specs.declared.Verdict.{Verdict}
@@ -121,11 +121,11 @@ first_or_none A Good Bad decide (x ∷ all) =
 
 module _ (permitted_or_not : PermittedOrNot) (always : List (List ℕ)) (r : Rows) (lines : List FlatLine) (within : AreWithin r.rows) where
   -- a choice breaks a link or not
-  breaks_or_not : (link : Link) (choice : Choice) → Breaks (registry_setting always r) lines choice link ⊎ (¬ Breaks (registry_setting always r) lines choice link)
+  breaks_or_not : (link : Link) (choice : Choice) → Breaks (pageless_setting always r) lines choice link ⊎ (¬ Breaks (pageless_setting always r) lines choice link)
   breaks_or_not link choice =
-      elim (among_or_not (links_of (pieces_of (registry_setting always r) lines choice)) link) [
+      elim (among_or_not (links_of (pieces_of (pageless_setting always r) lines choice)) link) [
         | inr none ↦ inr (λ breaks. none breaks.stands)
-        | inl stands ↦ elim (cases_eq (count_of (registry_setting always r) lines choice (link_id (registry_setting always r) lines choice link)) 1) [
+        | inl stands ↦ elim (cases_eq (count_of (pageless_setting always r) lines choice (link_id (pageless_setting always r) lines choice link)) 1) [
           | inl one ↦ inr (λ breaks. breaks.count one)
           | inr other ↦ inl (record { stands = stands; count = other })
         ]
@@ -133,7 +133,7 @@ module _ (permitted_or_not : PermittedOrNot) (always : List (List ℕ)) (r : Row
 
   -- a choice that the registry permits, where it has a value for each option, breaks a link
   abbrev BreaksAt : Link → Choice → Type 0
-  BreaksAt link choice = IsPermitted r choice × Breaks (registry_setting always r) lines choice link
+  BreaksAt link choice = IsPermitted r choice × Breaks (pageless_setting always r) lines choice link
 
   breaks_there_or_not : (link : Link) (choice : Choice) → BreaksAt link choice ⊎ (¬ BreaksAt link choice)
   breaks_there_or_not link choice =
@@ -149,7 +149,7 @@ module _ (permitted_or_not : PermittedOrNot) (always : List (List ℕ)) (r : Row
   abbrev IsBroken : Link → Type 0
   IsBroken link = (choice : Choice) × (length choice ≡ length r.options) × BreaksAt link choice
 
-  broken_or_sound : (link : Link) → IsBroken link ⊎ IsSound (registry_setting always r) lines link
+  broken_or_sound : (link : Link) → IsBroken link ⊎ IsSound (pageless_setting always r) lines link
   broken_or_sound link =
       elim (some_choice (length r.options) (BreaksAt link) (breaks_there_or_not link)) [
         | inl broken ↦ inl broken
@@ -157,16 +157,16 @@ module _ (permitted_or_not : PermittedOrNot) (always : List (List ℕ)) (r : Row
       ]
 
   -- each document has a verdict
-  pub every_verdict : (verdict : Verdict) × IsVerdict (registry_setting always r) lines verdict
+  pub every_verdict : (verdict : Verdict) × IsVerdict (pageless_setting always r) lines verdict
   every_verdict =
-      let all = all_links (registry_setting always r) lines in
-      elim (first_or_none Link (IsSound (registry_setting always r) lines) IsBroken broken_or_sound all) [
+      let all = all_links (pageless_setting always r) lines in
+      elim (first_or_none Link (IsSound (pageless_setting always r) lines) IsBroken broken_or_sound all) [
         | inr sound ↦ (Yes (length all), (refl, sound))
         | inl is ↦
             let link = is.first in
             let choice = is.bad.0 in
-            let id = link_id (registry_setting always r) lines choice link in (
-              No link.place id choice (count_of (registry_setting always r) lines choice id),
+            let id = link_id (pageless_setting always r) lines choice link in (
+              No link.place id choice (count_of (pageless_setting always r) lines choice id),
               record { before = is.before; link = link; after = is.after; here = is.here; first = is.good; permitted = (is.bad.1, is.bad.2.0); broken = is.bad.2.1; place_is = refl; id_is = refl; counted = refl },
             )
       ]

@@ -18,24 +18,31 @@ use Rattle.reg_rows.specs.Laws.{AnswersAreOne, EachIsAnswered, RowsAreWithin}
 use Rattle.reg_closure.specs.Existence.{ClosuresAreThere, OrdersAreThere}
 use Rattle.reg_permit.specs.Existence.{PermittedOrFirst}
 use Rattle.reg_permit.specs.Laws.{PermittedOrNot}
+use Rattle.doc_build.specs.Built.{choice_text}
 use Rattle.doc_build.specs.Choices.{free_names}
 use Rattle.lift_check.specs.Choices.{most_options}
-use Rattle.vkb_tool.specs.declared.status.Status.TheVariants.{Refused, Usage}
+use Rattle.lift_check.specs.Verdict.{JudgedWithoutPages}
+use Rattle.vkb_tool.specs.declared.status.Status.TheVariants.{Done, Refused, Usage}
+use Rattle.vkb_tool.specs.declared.document.Task.{Task}
+use Rattle.vkb_tool.specs.declared.document.Task.TheVariants as asks
 use Rattle.vkb_tool.specs.declared.words.Request.{Request}
-use Rattle.vkb_tool.specs.declared.words.Request.TheVariants.{Check, Header, Tag}
+use Rattle.vkb_tool.specs.declared.words.Request.TheVariants.{Build, Check, Header, Tag}
+use Rattle.vkb_tool.specs.Asked.{TellsFor, request_of}
+use Rattle.vkb_tool.specs.Declaring.{TellsText}
 use Rattle.vkb_tool.specs.Fault.{Fault, InDocument, InRegistry, NotBuilt, TooManyNames}
-use Rattle.vkb_tool.specs.Outcome.{AreBuilt, Effect, IsChecked, IsFaultIn, IsFirstUnbuilt, IsOffered, IsRegistryOf, Outcome, checked, is_unbuilt, misplaced, most_text, refused, status_of, writes_alone}
+use Rattle.vkb_tool.specs.Outcome.{AreBuilt, Effect, IsFaultIn, IsFirstUnbuilt, IsOffered, IsRegistryOf, Outcome, is_unbuilt, misplaced, most_text, refused, status_of, writes_alone}
 use Rattle.vkb_tool.specs.Report.{fault_line, report_of, usage_line}
 use Rattle.vkb_tool.specs.Tags.{read_fault}
 use Rattle.vkb_tool.specs.Words.{Spells}
 use Rattle.vkb_tool.specs.Registry.{IsRegistry}
 use Rattle.vkb_tool.proofs.AgreementLemmas.{OneWalk}
-use Rattle.vkb_tool.proofs.CheckLemmas.{nothing_wrong}
+use Rattle.vkb_tool.proofs.CheckLemmas.{no_pages_included, nothing_wrong}
+use Rattle.vkb_tool.proofs.ChoiceLemmas.{choice_comes}
 use Rattle.vkb_tool.proofs.EveryRequest.{every_request}
 use Rattle.vkb_tool.proofs.EveryVerdict.{every_verdict}
 use Rattle.vkb_tool.proofs.TagsLemmas.{HavePages, tags_come_to}
 use Rattle.vkb_tool.proofs.HeaderLemmas.{header_told, options_come, rows_counted}
-use Rattle.vkb_tool.proofs.OutcomeLemmas.{HaveSources, IsWalked, fault_there, faultless}
+use Rattle.vkb_tool.proofs.OutcomeLemmas.{HaveSources, IsWalked, registry_fault, told_for, walk_fault}
 use Rattle.vkb_tool.proofs.RegistryLemmas.{every_registry}
 
 -- the first line that isn't built, behind one that is
@@ -58,72 +65,91 @@ unbuilt_or_built declared (first ∷ lines) =
       ]
     ]
 
--- lines have a first fault or none, over a registry
-fault_or_none : (r : Rows) (lines : List FlatLine) → ((fault : Fault) × IsFaultIn r lines fault) ⊎ ((fault : Fault) → ¬ IsFaultIn r lines fault)
+-- lines have a first fault, over a registry, or all are built and there is none
+fault_or_none : (r : Rows) (lines : List FlatLine) → ((fault : Fault) × IsFaultIn r lines fault) ⊎ (AreBuilt r.names lines × ((fault : Fault) → ¬ IsFaultIn r lines fault))
 fault_or_none r lines =
     elim (unbuilt_or_built r.names lines) [
       | inl (line, first) ↦ inl (NotBuilt line.file line.number, (line, first, refl, refl))
       | inr built ↦ elim (cases_lt most_options (length r.options)) [
         | inl many ↦ inl (TooManyNames (length r.options), (built, record { counted = refl; many = many }))
-        | inr few ↦ inr (nothing_wrong r lines built few)
+        | inr few ↦ inr (built, nothing_wrong r lines built few)
       ]
     ]
 
--- the registry of each list of lines, of which what is named is there
-abbrev HasRegistries : Files → Option (List ℕ) → List ℕ → List (List ℕ) → Type 0
-HasRegistries files registry api always = (lines : List FlatLine) → (r : Rows) × IsRegistryOf files registry api always lines r × AreWithin r.rows
+-- each name of a registry has a row, and what the rows name is there
+record IsWhole (r : Rows) : Type 0 where
+  pub counted : length r.rows ≡ length r.names
+  pub within : AreWithin r.rows
 
-module _ (have : HaveSources) (one_walk : OneWalk) (pages : HavePages) (one_answer : OneAnswer) (one_rows : AnswersAreOne) (each_answered : EachIsAnswered) (rows_within : RowsAreWithin) (permitted_or_not : PermittedOrNot) (closures : ClosuresAreThere) (orders : OrdersAreThere) (permitted_or_first : PermittedOrFirst)
+-- the registry of each list of lines
+abbrev HasRegistries : Files → Option (List ℕ) → List ℕ → List (List ℕ) → Type 0
+HasRegistries files registry api always = (lines : List FlatLine) → (r : Rows) × IsRegistryOf files registry api always lines r × IsWhole r
+
+module _ (have : HaveSources) (one_walk : OneWalk) (pages : HavePages) (one_answer : OneAnswer) (one_rows : AnswersAreOne) (each_answered : EachIsAnswered) (rows_within : RowsAreWithin) (judged_without : JudgedWithoutPages) (permitted_or_not : PermittedOrNot) (closures : ClosuresAreThere) (orders : OrdersAreThere) (permitted_or_first : PermittedOrFirst)
     (words : List (List ℕ)) (files : Files) where
-  -- what is checked comes to something
-  checks_come : (registry : Option (List ℕ)) (root api : List ℕ) (always : List (List ℕ)) (r : Rows) (lines : List FlatLine) → Spells words (Check registry root api always) → IsOffered files registry api
-      → IsChecked files registry root api always r lines → AreWithin r.rows → IsWalked files root lines → (effect : Effect) × Outcome words files effect
-  checks_come registry root api always r lines spelled offered is within walked =
+  -- a request on a document comes to something over its registry
+  task_comes : (task : Task) (always : List (List ℕ)) (r : Rows) (lines : List FlatLine) → IsWhole r → (effect : Effect) × TellsFor task always r lines effect
+  task_comes asks.Check always r lines whole =
       elim (fault_or_none r lines) [
-        | inl (fault, stands) ↦ (
-          writes_alone Refused (fault_line fault),
-          refused (Check registry root api always) fault spelled (fault_there files registry root api always r lines fault is stands),
-        )
-        | inr none ↦
-            let judged = every_verdict permitted_or_not always r lines within in (
-              writes_alone (status_of judged.0) (report_of lines r.options judged.0),
-              checked registry root api always r lines judged.0 spelled (faultless one_answer one_rows files registry root api always r lines walked is.over offered none) is judged.1,
-            )
+        | inl (fault, stands) ↦ (writes_alone Refused (fault_line fault), inl (record { fault = fault; first = stands; told = refl }))
+        | inr (built, none) ↦
+            let judged = every_verdict permitted_or_not always r lines whole.within in
+            let is = judged_without always r lines judged.0 whole.counted whole.within (no_pages_included r lines built) judged.1 in
+            (writes_alone (status_of judged.0) (report_of lines r.options judged.0), inr (record { none = none; verdict = judged.0; is = is; told = refl }))
       ]
+  task_comes (asks.Build names) always r lines whole =
+      choice_comes permitted_or_first r names whole.within (TellsText always r lines) (λ chosen.
+      let closure = closures r chosen whole.counted whole.within in
+      (writes_alone Done (choice_text always r chosen closure.0 lines), record { set = closure.0; closure = closure.1; told = refl }))
 
   -- a walk comes to something
-  walk_comes : (registry : Option (List ℕ)) (root api : List ℕ) (always : List (List ℕ)) (sources : Sources) (first : Option DocumentFault) → Spells words (Check registry root api always)
+  walk_comes : (task : Task) (registry : Option (List ℕ)) (root api : List ℕ) (always : List (List ℕ)) (sources : Sources) (first : Option DocumentFault) → Spells words (request_of task registry root api always)
       → IsOffered files registry api → HasRegistries files registry api always → AreSources files sources → first_fault sources most_text [] (walk sources root) ≡ first → (effect : Effect) × Outcome words files effect
-  walk_comes registry root api always sources (Some fault) spelled offered registries are first =
-      let is : IsFaultOf files most_text root fault = record { sources = sources; are = are; first = first } in
-      (writes_alone Refused (fault_line (InDocument fault)), refused (Check registry root api always) (InDocument fault) spelled (offered, is))
-  walk_comes registry root api always sources None spelled offered registries are first =
+  walk_comes task registry root api always sources (Some fault) spelled offered registries are first =
+      let is : IsFaultOf files most_text root fault = record { sources = sources; are = are; first = first } in (
+        writes_alone Refused (fault_line (InDocument fault)),
+        refused (request_of task registry root api always) (InDocument fault) spelled (walk_fault task files registry root api always fault offered is),
+      )
+  walk_comes task registry root api always sources None spelled offered registries are first =
       let lines = taken (walk sources root) in
       let is : IsDocument files most_text root lines = record { sources = sources; are = are; faultless = first; lines_are = refl } in
       let walked : IsWalked files root lines = λ others also.
       let same = one_walk files sources others are also in
       (subst (λ (s : Sources). first_fault s most_text [] (walk s root) ≡ None) same first, ap (λ (s : Sources). taken (walk s root)) same) in
       let over = registries lines in
-      checks_come registry root api always over.0 lines spelled offered (record { document = is; over = over.1 }) over.2 walked
+      let told = task_comes task always over.0 lines over.2 in
+      (told.0, told_for one_answer one_rows words files registry root api always over.0 lines told.0 walked offered (record { document = is; over = over.1 }) task spelled told.1)
 
-  check_comes : (registry : Option (List ℕ)) (root api : List ℕ) (always : List (List ℕ)) → Spells words (Check registry root api always) → IsOffered files registry api → HasRegistries files registry api always
-      → (effect : Effect) × Outcome words files effect
-  check_comes registry root api always spelled offered registries =
+  document_comes : (task : Task) (registry : Option (List ℕ)) (root api : List ℕ) (always : List (List ℕ)) → Spells words (request_of task registry root api always) → IsOffered files registry api
+      → HasRegistries files registry api always → (effect : Effect) × Outcome words files effect
+  document_comes task registry root api always spelled offered registries =
       let found = have files in
-      walk_comes registry root api always found.0 (first_fault found.0 most_text [] (walk found.0 root)) spelled offered registries found.1 refl
+      walk_comes task registry root api always found.0 (first_fault found.0 most_text [] (walk found.0 root)) spelled offered registries found.1 refl
 
   -- what the rows of a registry name is there
   registry_within : (found : Option (List ℕ)) (api : List ℕ) (r : Rows) → IsRegistry found api r → AreWithin r.rows
   registry_within found api r is = rows_within (forms_of api is.root) r is.answered
 
-  request_comes : (request : Request) → Spells words request → (effect : Effect) × Outcome words files effect
-  request_comes (Check None root api always) spelled =
-      check_comes None root api always spelled tt (λ lines. (bare_rows (free_names always lines), refl, All-nil (λ (row : Row). All (λ (id : NameId). id.0 < 0) row.named)))
-  request_comes (Check (Some name) root api always) spelled =
+  -- a request on a document comes to something
+  asked_comes : (task : Task) (registry : Option (List ℕ)) (root api : List ℕ) (always : List (List ℕ)) → Spells words (request_of task registry root api always) → (effect : Effect) × Outcome words files effect
+  asked_comes task None root api always spelled =
+      document_comes task None root api always spelled tt (λ lines. (
+        bare_rows (free_names always lines),
+        refl,
+        record { counted = refl; within = All-nil (λ (row : Row). All (λ (id : NameId). id.0 < 0) row.named) },
+      ))
+  asked_comes task (Some name) root api always spelled =
       elim (every_registry one_answer each_answered (files name) api) [
-        | inl (r, is) ↦ check_comes (Some name) root api always spelled (r, is) (λ lines. (r, is, registry_within (files name) api r is))
-        | inr (fault, is) ↦ (writes_alone Refused (fault_line (InRegistry name api fault)), refused (Check (Some name) root api always) (InRegistry name api fault) spelled (refl, refl, is))
+        | inl (r, is) ↦ document_comes task (Some name) root api always spelled (r, is) (λ lines. (r, is, record { counted = rows_counted (files name) api r is; within = registry_within (files name) api r is }))
+        | inr (fault, is) ↦ (
+          writes_alone Refused (fault_line (InRegistry name api fault)),
+          refused (request_of task (Some name) root api always) (InRegistry name api fault) spelled (registry_fault task files name root api always fault is),
+        )
       ]
+
+  request_comes : (request : Request) → Spells words request → (effect : Effect) × Outcome words files effect
+  request_comes (Check registry root api always) spelled = asked_comes asks.Check registry root api always spelled
+  request_comes (Build registry root api names always) spelled = asked_comes (asks.Build names) registry root api always spelled
   request_comes (Header registry api names) spelled =
       elim (every_registry one_answer each_answered (files registry) api) [
         | inl (r, is) ↦

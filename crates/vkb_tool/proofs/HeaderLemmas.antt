@@ -1,10 +1,8 @@
 -- What a request for a header comes to.
-use Rattle.std.proofs.Common.{inl, inr, ◌≡◌, ℕ, ◌<◌, Bool, true, All, List, [], ◌∷◌, length, map, get_or, slice_get, option_map, Option, Some, None, slice_index_or, arith, refl, sym, ap, ◌∙◌, subst}
-use Rattle.std.proofs.lemmas.Bool.{cases_order}
+use Rattle.std.proofs.Common.{inl, inr, ◌≡◌, ℕ, ◌<◌, Bool, true, All, List, [], ◌∷◌, length, map, get_or, slice_get, option_map, Option, Some, arith, refl, sym, ap, ◌∙◌, subst}
 use Rattle.std.proofs.lemmas.List.{length-map}
-use Rattle.std.proofs.lemmas.Option.{none-some, same_Some, slice_get-get_or, slice_get-map, slice_get_within}
+use Rattle.std.proofs.lemmas.Option.{slice_get-get_or, slice_get-map, slice_get_within}
 use Rattle.vkb_outside.specs.Shelf.{Files}
-use Rattle.vkb_bytes.specs.First.{IsFirst}
 use Rattle.vkb_formula.specs.declared.name_table.NameId.{NameId}
 use Rattle.reg_reader.specs.Laws.{OneAnswer}
 use Rattle.reg_registry.specs.Laws.{AreWithin}
@@ -18,45 +16,46 @@ use Rattle.reg_closure.specs.Closure.{IsClosure}
 use Rattle.reg_closure.specs.Existence.{ClosuresAreThere, OrdersAreThere}
 use Rattle.reg_closure.specs.Laws.{ClosuresAreOne, OrdersAreOne}
 use Rattle.reg_closure.specs.Orders.{IsOrder}
-use Rattle.reg_permit.specs.Choices.{IsChoice, IsNotPermitted, chosen_by, unknown_in}
+use Rattle.reg_permit.specs.Choices.{IsChoice, chosen_by}
 use Rattle.reg_permit.specs.Existence.{PermittedOrFirst}
-use Rattle.reg_permit.specs.Permitted.{BreaksRule, IsPermitted}
 use Rattle.hdr_writer.specs.Headers.{header}
 use Rattle.vkb_tool.specs.declared.status.Status.TheVariants.{Done, Refused}
 use Rattle.vkb_tool.specs.declared.words.Request.TheVariants.{Header}
 use Rattle.vkb_tool.specs.declared.registry.RegistryFault.{RegistryFault}
-use Rattle.vkb_tool.specs.Declaring.{TellsHeader, TellsOfOptions, declares, not_permitted, unknown}
+use Rattle.vkb_tool.specs.Declaring.{TellsAtChoice, TellsHeader}
 use Rattle.vkb_tool.specs.Fault.{Fault, BadTag, InDocument, InRegistry, NoNumber, NotBuilt, NotPermitted, TooManyNames, UnknownOption}
-use Rattle.vkb_tool.specs.Outcome.{Effect, HasNoFault, IsDeclared, IsHeaderFault, Outcome, declared, determined, refused, writes_alone}
+use Rattle.vkb_tool.specs.Outcome.{Effect, HasNoFault, IsDeclared, IsFaultAt, IsHeaderFault, Outcome, declared, determined, refused, writes_alone}
 use Rattle.vkb_tool.specs.Registry.{IsRegistry, IsRegistryFault}
 use Rattle.vkb_tool.specs.Report.{fault_line}
 use Rattle.vkb_tool.specs.Words.{Spells}
+use Rattle.vkb_tool.proofs.ChoiceLemmas.{choice_comes, choice_sound, same_fault_at}
 use Rattle.vkb_tool.proofs.RegistryLemmas.{never_faulty_registry, one_registry, one_registry_fault}
-
--- there is one first
-same_first_place : (P : ℕ → Type 0) (place other : ℕ) → IsFirst P place → IsFirst P other → place ≡ other
-same_first_place P place other is also =
-    elim (cases_order place other) [
-      | inl same ↦ same
-      | inr (inl less) ↦ absurd (also.first place less is.here)
-      | inr (inr more) ↦ absurd (is.first other more also.here)
-    ]
 
 -- which fault of a header it is
 data Kinds (files : Files) (registry api : List ℕ) (names : List (List ℕ)) (fault : Fault) : Type 0 where
   in_file : (wrong : RegistryFault) → fault ≡ InRegistry registry api wrong → IsRegistryFault (files registry) api wrong → Kinds files registry api names fault
-  no_option : (r : Rows) (word : List ℕ) → fault ≡ UnknownOption word → IsRegistry (files registry) api r → unknown_in r.options names ≡ Some word → Kinds files registry api names fault
-  unkept : (r : Rows) (id : NameId) → fault ≡ NotPermitted (slice_index_or r.options id.0 []) → IsRegistry (files registry) api r → IsNotPermitted r names id.0 → Kinds files registry api names fault
+  at_choice : (r : Rows) → IsRegistry (files registry) api r → IsFaultAt r names fault → Kinds files registry api names fault
 
 kind_of : (files : Files) (registry api : List ℕ) (names : List (List ℕ)) (fault : Fault) → IsHeaderFault files registry api names fault → Kinds files registry api names fault
 kind_of files registry api names (InRegistry file asked wrong) is = in_file wrong (ap (λ (f : List ℕ). InRegistry f asked wrong) is.0 ∙ ap (λ (a : List ℕ). InRegistry registry a wrong) is.1) is.2
 kind_of files registry api names (InDocument fault) is = absurd is
 kind_of files registry api names (NotBuilt file number) is = absurd is
 kind_of files registry api names (TooManyNames count) is = absurd is
-kind_of files registry api names (UnknownOption word) is = no_option is.0 word refl is.1.0 is.1.1
-kind_of files registry api names (NotPermitted option) is = unkept is.0 is.1 (ap NotPermitted is.3) is.2.0 is.2.1
+kind_of files registry api names (UnknownOption word) is = at_choice is.0 is.1.0 is.1.1
+kind_of files registry api names (NotPermitted option) is = at_choice is.0 is.2.0 (is.1, is.2.1, is.3)
 kind_of files registry api names (BadTag file number) is = absurd is
 kind_of files registry api names (NoNumber needed left) is = absurd is
+
+-- a fault of the choice that words name is one of a header
+choice_fault : (files : Files) (registry api : List ℕ) (names : List (List ℕ)) (r : Rows) (fault : Fault) → IsRegistry (files registry) api r → IsFaultAt r names fault → IsHeaderFault files registry api names fault
+choice_fault files registry api names r (InRegistry file asked wrong) read is = absurd is
+choice_fault files registry api names r (InDocument fault) read is = absurd is
+choice_fault files registry api names r (NotBuilt file number) read is = absurd is
+choice_fault files registry api names r (TooManyNames count) read is = absurd is
+choice_fault files registry api names r (UnknownOption word) read is = (r, (read, is))
+choice_fault files registry api names r (NotPermitted option) read is = (r, is.0, (read, is.1), is.2)
+choice_fault files registry api names r (BadTag file number) read is = absurd is
+choice_fault files registry api names r (NoNumber needed left) read is = absurd is
 
 module _ (one_answer : OneAnswer) (one_rows : AnswersAreOne) (files : Files) (registry api : List ℕ) (names : List (List ℕ)) where
   -- what holds of a registry of the file holds of any
@@ -66,25 +65,10 @@ module _ (one_answer : OneAnswer) (one_rows : AnswersAreOne) (files : Files) (re
   same_kinds : (fault other : Fault) → Kinds files registry api names fault → Kinds files registry api names other → determined fault ≡ determined other
   same_kinds fault other (in_file wrong is bad) (in_file evil also worse) =
       ap determined is ∙ ap (λ (w : RegistryFault). InRegistry registry api w) (one_registry_fault one_answer one_rows (files registry) api wrong evil bad worse) ∙ ap determined (sym also)
-  same_kinds fault other (in_file wrong is bad) (no_option r word also read un) = absurd (never_faulty_registry one_answer one_rows (files registry) api r wrong read bad)
-  same_kinds fault other (in_file wrong is bad) (unkept r id also read un_kept) = absurd (never_faulty_registry one_answer one_rows (files registry) api r wrong read bad)
-  same_kinds fault other (no_option r word is read un) (in_file wrong also bad) = absurd (never_faulty_registry one_answer one_rows (files registry) api r wrong read bad)
-  same_kinds fault other (unkept r id is read un_kept) (in_file wrong also bad) = absurd (never_faulty_registry one_answer one_rows (files registry) api r wrong read bad)
-  same_kinds fault other (no_option r word is read un) (no_option rows text also reread none) =
-      let there = at_other (λ (rs : Rows). unknown_in rs.options names ≡ Some text) r rows read reread none in
-      ap determined (is ∙ ap UnknownOption (same_Some word text (sym un ∙ there)) ∙ sym also)
-  same_kinds fault other (no_option r word is read un) (unkept rows id also reread un_kept) =
-      let there = at_other (λ (rs : Rows). IsNotPermitted rs names id.0) r rows read reread un_kept in
-      absurd (none-some word (sym there.known ∙ un))
-  same_kinds fault other (unkept r id is read un_kept) (no_option rows word also reread un) =
-      let there = at_other (λ (rs : Rows). unknown_in rs.options names ≡ Some word) r rows read reread un in
-      absurd (none-some word (sym un_kept.known ∙ there))
-  same_kinds fault other (unkept r id is read un_kept) (unkept rows next also reread never) =
-      let there = at_other (λ (rs : Rows). IsNotPermitted rs names next.0) r rows read reread never in
-      let places = same_first_place (BreaksRule r (chosen_by r.options names)) id.0 next.0 un_kept.first there.first in
-      let same = one_registry one_answer one_rows (files registry) api r rows read reread in
-      ap determined
-      (is ∙ ap (λ (place : ℕ). NotPermitted (slice_index_or r.options place [])) places ∙ ap (λ (rs : Rows). NotPermitted (slice_index_or rs.options next.0 [])) same ∙ sym also)
+  same_kinds fault other (in_file wrong is bad) (at_choice r read stands) = absurd (never_faulty_registry one_answer one_rows (files registry) api r wrong read bad)
+  same_kinds fault other (at_choice r read stands) (in_file wrong also bad) = absurd (never_faulty_registry one_answer one_rows (files registry) api r wrong read bad)
+  same_kinds fault other (at_choice r read stands) (at_choice rows reread also) =
+      ap determined (same_fault_at r names fault other stands (at_other (λ (rs : Rows). IsFaultAt rs names other) r rows read reread also))
 
   pub same_header_fault : (fault other : Fault) → IsHeaderFault files registry api names fault → IsHeaderFault files registry api names other → determined fault ≡ determined other
   same_header_fault fault other is also = same_kinds fault other (kind_of files registry api names fault is) (kind_of files registry api names other also)
@@ -92,24 +76,17 @@ module _ (one_answer : OneAnswer) (one_rows : AnswersAreOne) (files : Files) (re
   -- where a registry is read and words name a permitted choice, there is no fault
   none_of : (r : Rows) (chosen : List Bool) (fault : Fault) → IsRegistry (files registry) api r → IsChoice r names chosen → Kinds files registry api names fault → ⊥
   none_of r chosen fault read choice (in_file wrong is bad) = never_faulty_registry one_answer one_rows (files registry) api r wrong read bad
-  none_of r chosen fault read choice (no_option rows word is reread un) =
-      none-some word (sym choice.known ∙ at_other (λ (rs : Rows). unknown_in rs.options names ≡ Some word) r rows read reread un)
-  none_of r chosen fault read choice (unkept rows id is reread un_kept) =
-      let breaks = (at_other (λ (rs : Rows). IsNotPermitted rs names id.0) r rows read reread un_kept).first.here in
-      let permitted = subst (IsPermitted r) choice.named choice.permitted in
-      breaks.2 (permitted id.0 breaks.0 breaks.1)
+  none_of r chosen fault read choice (at_choice rows reread stands) = choice_sound r names chosen choice fault (at_other (λ (rs : Rows). IsFaultAt rs names fault) r rows read reread stands)
 
   pub header_faultless : (r : Rows) (chosen : List Bool) → IsRegistry (files registry) api r → IsChoice r names chosen → HasNoFault (Header registry api names) files
   header_faultless r chosen read choice fault is = none_of r chosen fault read choice (kind_of files registry api names fault is)
 
   -- what is told of words for options is what the words and the files come to
-  pub header_told : (words : List (List ℕ)) (r : Rows) (effect : Effect) → Spells words (Header registry api names) → IsRegistry (files registry) api r → TellsOfOptions r names effect → Outcome words files effect
-  header_told words r effect spelled read (unknown word is told) =
-      subst (λ (e : Effect). Outcome words files e) (sym told) (refused (Header registry api names) (UnknownOption word) spelled (r, (read, is)))
-  header_told words r effect spelled read (not_permitted id is told) =
-      subst (λ (e : Effect). Outcome words files e) (sym told)
-      (refused (Header registry api names) (NotPermitted (slice_index_or r.options id.0 [])) spelled (r, id, (read, is), refl))
-  header_told words r effect spelled read (declares chosen is tells) =
+  pub header_told : (words : List (List ℕ)) (r : Rows) (effect : Effect) → Spells words (Header registry api names) → IsRegistry (files registry) api r → TellsAtChoice r names (TellsHeader r) effect → Outcome words files effect
+  header_told words r effect spelled read (inl wrong) =
+      subst (λ (e : Effect). Outcome words files e) (sym wrong.told)
+      (refused (Header registry api names) wrong.fault spelled (choice_fault files registry api names r wrong.fault read wrong.first))
+  header_told words r effect spelled read (inr (chosen, is, tells)) =
       subst (λ (e : Effect). Outcome words files e) (sym tells.told)
       (declared registry api names r chosen tells.order spelled (header_faultless r chosen read is)
       (record { read = read; choice = is; set = tells.set; closure = tells.closure; ordered = tells.ordered }))
@@ -167,20 +144,9 @@ module _ (closures : ClosuresAreThere) (orders : OrdersAreThere) (permitted_or_f
       let ids = map id_at order.0 in
       (writes_alone Done (header r chosen ids), record { set = closure.0; closure = closure.1; order = ids; ordered = subst (IsOrder r.rows closure.0) (sym (ids_at order.0)) order.1; told = refl })
 
-  options_told : (o : Option (List ℕ)) → unknown_in r.options names ≡ o → (effect : Effect) × TellsOfOptions r names effect
-  options_told (Some word) e = (writes_alone Refused (fault_line (UnknownOption word)), unknown word e refl)
-  options_told None e =
-      elim (permitted_or_first r (chosen_by r.options names) within) [
-        | inl permitted ↦
-            let told = header_there (chosen_by r.options names) in
-            (told.0, declares (chosen_by r.options names) (record { known = e; named = refl; permitted = permitted }) told.1)
-        | inr (place, first) ↦
-            (writes_alone Refused (fault_line (NotPermitted (slice_index_or r.options place []))), not_permitted (id_at place) (record { known = e; first = first }) refl)
-      ]
-
   -- words for options come to something, over a registry
-  pub options_come : (effect : Effect) × TellsOfOptions r names effect
-  options_come = options_told (unknown_in r.options names) refl
+  pub options_come : (effect : Effect) × TellsAtChoice r names (TellsHeader r) effect
+  options_come = choice_comes permitted_or_first r names within (TellsHeader r) header_there
 
 -- names in the order of a set are among those of the set
 pub order_within : (rows : List Row) (set : List Bool) (ids : List NameId) (n : ℕ) → length set ≡ n → IsOrder rows set (map (λ id. id.0) ids) → All (λ id. id.0 < n) ids

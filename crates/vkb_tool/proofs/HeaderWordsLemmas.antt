@@ -1,15 +1,13 @@
 -- The words of a request for a header, and where they stop being those of one.
-use Rattle.std.proofs.Common.{inl, inr, ◌≡◌, ◌≢◌, ◌⊎◌, ℕ, suc, ◌+◌, ◌-◌, ◌≤◌, List, [], ◌∷◌, ◌++◌, length, take, drop, get_or, Some, None, slice_get, codes, refl, sym, ap, ◌∙◌, arith, subst, All}
+use Rattle.std.proofs.Common.{inl, inr, ◌≡◌, ◌≢◌, ◌⊎◌, ℕ, suc, ◌+◌, ◌<◌, ◌≤◌, List, [], ◌∷◌, ◌++◌, length, take, drop, get_or, Some, None, slice_get, codes, refl, sym, ap, ◌∙◌, arith, All}
 use Rattle.std.proofs.lemmas.Bool.{cases_lt}
 use Rattle.std.proofs.lemmas.Option.{none-some, slice_get_past, slice_get_within, slice_get-get_or}
-use Rattle.std.proofs.lemmas.List.{take-append-drop, take-take}
+use Rattle.std.proofs.lemmas.List.{take-append-drop, take-take, take_all}
 use Rattle.std.proofs.lemmas.List.Elements.{All-get_or, All-nil}
-use Rattle.vkb_tool.specs.Reading.{IsApiThird, IsNoOption, IsOptionFault, IsRegistryNamed}
-use Rattle.vkb_tool.specs.Words.{IsApiOf, IsMisplaced, IsOptionWord, IsWordFault, Spells}
-use Rattle.vkb_tool.specs.declared.words.WordFault.{WordFault}
-use Rattle.vkb_tool.specs.declared.words.WordFault.TheVariants.{Memory, Usage}
+use Rattle.vkb_tool.specs.Reading.{IsApiThird, IsRegistryNamed, LeadsOptions}
+use Rattle.vkb_tool.specs.Words.{IsApiOf, IsMisplaced, IsOptionWord, Spells}
 use Rattle.vkb_tool.specs.declared.words.Request.{Request}
-use Rattle.vkb_tool.specs.declared.words.Request.TheVariants.{Check, Header, Tag}
+use Rattle.vkb_tool.specs.declared.words.Request.TheVariants.{Build, Check, Header, Tag}
 use Rattle.vkb_tool.proofs.WordsLemmas.{is_name_a, misplaced_from, same_first, take_next}
 
 -- the words of a request for a header
@@ -28,6 +26,8 @@ record IsHeaderOf (words : List (List ℕ)) : Type 0 where
 spelled_header : (words : List (List ℕ)) (request : Request) → Spells words request → slice_get words 0 ≡ Some (codes "header") → IsHeaderOf words
 spelled_header words (Check registry root api always) spelled first =
     let other : Some (codes "check") ≡ Some (codes "header") = sym (ap (λ (w : List (List ℕ)). slice_get w 0) spelled.3) ∙ first in absurd (cc)
+spelled_header words (Build registry root api names always) spelled first =
+    let other : Some (codes "build") ≡ Some (codes "header") = sym (ap (λ (w : List (List ℕ)). slice_get w 0) spelled.4) ∙ first in absurd (cc)
 spelled_header words (Header registry api names) spelled first = record { registry = registry; api = api; names = names; goes = spelled.0; set = spelled.1; words_are = spelled.2 }
 spelled_header words (Tag number files) spelled first =
     let other : Some (codes "tag") ≡ Some (codes "header") = sym (ap (λ (w : List (List ℕ)). slice_get w 0) spelled.3) ∙ first in absurd (cc)
@@ -84,29 +84,27 @@ looked_up names j set =
       | inr past ↦ inl (slice_get_past names j past)
     ]
 
--- the first k words are those of a request for a header, and the next one, behind the third, is none for an option
-pub no_option_at : (words : List (List ℕ)) (registry api : List ℕ) (position : ℕ) → IsApiOf (Some registry) api → take 3 words ≡ header_words registry api [] → IsNoOption words position → IsMisplaced words position
-no_option_at words registry api position goes front wrong =
-    let from = wrong.behind in
-    let upto = wrong.within in
-    let k = position - 1 in
-    let back : k + 1 ≡ position = omega arith in
-    let like = header_words registry api wrong.names in
-    let same : take k words ≡ like = wrong.before ∙ ap (λ (w : List (List ℕ)). w ++ wrong.names) front in
-    let long : k ≤ length words = omega arith in
+-- the words of a request for a header stop behind those for options, and one more stands there
+pub no_option_at : (words : List (List ℕ)) (registry api : List ℕ) (names : List (List ℕ)) → IsApiOf (Some registry) api → take 3 words ≡ header_words registry api [] → LeadsOptions 3 words names → 3 + length names < length words
+    → IsMisplaced words (3 + length names + 1)
+no_option_at words registry api names goes front leads more_words =
+    let k = 3 + length names in
+    let like = header_words registry api names in
+    let same : take k words ≡ like = leads.words_are ∙ ap (λ (w : List (List ℕ)). w ++ names) front in
     let whole : take k words ≡ take k like = sym (take-take k k words (omega arith)) ∙ ap (take k) same in
-    let place : suc (suc (suc (k - 3))) ≡ k = omega arith in
+    let place : suc (suc (suc (length names))) ≡ k = omega arith in
     let read = slice_get-get_or words k [] (omega arith) in
-    subst (λ (n : ℕ). IsMisplaced words n) back (header_misplaced words k registry api wrong.names goes wrong.names_are (omega arith) long whole
+    header_misplaced words k registry api names goes leads.names_are (omega arith) (omega arith) whole
     (λ more is alike e.
-    let there : slice_get words k ≡ slice_get is.names (k - 3) =
+    let there : slice_get words k ≡ slice_get is.names (length names) =
     sym e ∙ ap (λ (w : List (List ℕ)). slice_get w k) is.words_are ∙ ap (λ (n : ℕ). slice_get (header_words is.registry is.api is.names) n) (sym place) in
-    elim (looked_up is.names (k - 3) is.set) [
+    elim (looked_up is.names (length names) is.set) [
       | inl none ↦ none-some _ (sym (there ∙ none) ∙ read)
-      | inr found ↦ wrong.here found.0 found.1 (there ∙ found.2)
-    ]))
+      | inr found ↦ leads.next found.0 found.1 (there ∙ found.2)
+    ])
 
--- what is told of words that aren't all for options
-pub misplaced_option : (words : List (List ℕ)) (registry api : List ℕ) (fault : WordFault) → IsApiOf (Some registry) api → take 3 words ≡ header_words registry api [] → IsOptionFault words fault → IsWordFault words fault
-misplaced_option words registry api (Usage position) goes front wrong = no_option_at words registry api position goes front wrong
-misplaced_option words registry api Memory goes front wrong = tt
+-- where none stands there, the words are those of a request for a header
+pub all_options : (words : List (List ℕ)) (registry api : List ℕ) (names : List (List ℕ)) → take 3 words ≡ header_words registry api [] → LeadsOptions 3 words names → length words ≤ 3 + length names
+    → words ≡ header_words registry api names
+all_options words registry api names front leads whole =
+    sym (take_all (3 + length names) words whole) ∙ leads.words_are ∙ ap (λ (w : List (List ℕ)). w ++ names) front

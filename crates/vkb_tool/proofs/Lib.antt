@@ -1,9 +1,11 @@
 pub mod WordsLemmas
 pub mod TagWordsLemmas
 pub mod HeaderWordsLemmas
+pub mod BuildWordsLemmas
 pub mod PutLemmas
 pub mod ReportLemmas
 pub mod RegistryLemmas
+pub mod ChoiceLemmas
 pub mod OutcomeLemmas
 pub mod CheckLemmas
 pub mod ReadingLemmas

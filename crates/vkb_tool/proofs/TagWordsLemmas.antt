@@ -11,7 +11,7 @@ use Rattle.vkb_tool.specs.Words.{AreFileNames, IsFileName, IsMisplaced, IsWordFa
 use Rattle.vkb_tool.specs.declared.words.WordFault.{WordFault}
 use Rattle.vkb_tool.specs.declared.words.WordFault.TheVariants.{Memory, Usage}
 use Rattle.vkb_tool.specs.declared.words.Request.{Request}
-use Rattle.vkb_tool.specs.declared.words.Request.TheVariants.{Check, Header, Tag}
+use Rattle.vkb_tool.specs.declared.words.Request.TheVariants.{Build, Check, Header, Tag}
 use Rattle.vkb_tool.proofs.WordsLemmas.{is_name_a, misplaced_from, same_first, take_next}
 
 -- the words of a request to tag
@@ -30,6 +30,8 @@ record IsTagOf (words : List (List ℕ)) : Type 0 where
 spelled_tag : (words : List (List ℕ)) (request : Request) → Spells words request → slice_get words 0 ≡ Some (codes "tag") → IsTagOf words
 spelled_tag words (Check registry root api always) spelled first =
     let other : Some (codes "check") ≡ Some (codes "tag") = sym (ap (λ (w : List (List ℕ)). slice_get w 0) spelled.3) ∙ first in absurd (cc)
+spelled_tag words (Build registry root api names always) spelled first =
+    let other : Some (codes "build") ≡ Some (codes "tag") = sym (ap (λ (w : List (List ℕ)). slice_get w 0) spelled.4) ∙ first in absurd (cc)
 spelled_tag words (Header registry api names) spelled first =
     let other : Some (codes "header") ≡ Some (codes "tag") = sym (ap (λ (w : List (List ℕ)). slice_get w 0) spelled.2) ∙ first in absurd (cc)
 spelled_tag words (Tag number files) spelled first = record { word = spelled.0; first = number; names = files; numbered = spelled.1; names_are = spelled.2; words_are = spelled.3 }

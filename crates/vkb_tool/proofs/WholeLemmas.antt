@@ -1,6 +1,8 @@
 -- The header that is written has each name of the closure once, behind all that it names.
-use Rattle.std.proofs.Common.{inl, inr, ⊎_elim, ◌≡◌, ℕ, zero, suc, ◌<◌, Bool, true, false, not, cond, List, [], ◌∷◌, ◌++◌, codes, filter, map, Some, slice_get, Contains, option_map, sym, ap, ◌∙◌, subst, arith, append_assoc}
+use Rattle.std.proofs.Common.{inl, inr, ⊎_elim, ◌≡◌, ℕ, zero, suc, ◌<◌, Bool, true, false, not, cond, List, [], ◌∷◌, ◌++◌, codes, filter, map, Option, Some, None, slice_get, Contains, option_map, refl, sym, ap, ◌∙◌, subst, arith, append_assoc}
+use Rattle.std.specs.Prelude.{IsSomeAnd}
 use Rattle.std.specs.List.{flat_map}
+use Rattle.std.specs.Option.{option_map_or}
 use Rattle.std.proofs.lemmas.Bool.{cases_Bool, false≢true}
 use Rattle.std.proofs.lemmas.Grind.{flat_map-append}
 use Rattle.std.proofs.lemmas.List.{map-append}
@@ -9,16 +11,21 @@ use Rattle.std.proofs.lemmas.Option.{none-some, same_Some, slice_get-map}
 use Rattle.vkb_formula.specs.declared.name_table.NameId.{NameId}
 use Rattle.reg_registry.specs.Naming.{Names, NoneTwice}
 use Rattle.reg_registry.specs.Rows.{Rows, id_at}
+use Rattle.reg_registry.specs.declared.kinds.Kind.{Kind}
+use Rattle.reg_registry.specs.declared.kinds.Kind.TheVariants as kind
+use Rattle.reg_registry.specs.declared.registry.Row.{Row}
 use Rattle.reg_closure.specs.Existence.{OrdersHaveAll}
 use Rattle.reg_closure.specs.Laws.{ClosuresAreClosed}
 use Rattle.reg_closure.specs.Orders.{StandBehind}
+use Rattle.reg_rows.specs.Commands.{OnlyCommandsNameCommands}
 use Rattle.reg_closure.proofs.NumberLemmas.{none-twice}
 use Rattle.reg_closure.proofs.PlacedLemmas.{Contains-cases, Contains-first, Contains-map, Contains-rest, place-of}
 use Rattle.lift_check.proofs.SitesLemmas.{Contains-filter}
 use Rattle.hdr_writer.specs.Declarations.{declaration}
-use Rattle.hdr_writer.specs.Headers.{defines, header, is_command, prologue}
+use Rattle.hdr_writer.specs.Headers.{defines, header, is_command, is_command_kind, prologue}
 use Rattle.hdr_writer.specs.Lines.{line}
 use Rattle.vkb_tool.specs.Laws.{HeadersAreWhole, StandsBefore, written_order}
+use Rattle.vkb_tool.specs.Registry.{IsRegistry}
 use Rattle.vkb_tool.proofs.HeaderLemmas.{rows_counted, rows_in_no_circle}
 
 -- the places of names
@@ -208,8 +215,23 @@ module _ (r : Rows) (chosen : List Bool) (order : List NameId) where
         first_of_two : StandsBefore order other id → Contains order other
         first_of_two (front, middle, back, split) = subst (λ (ids : List NameId). Contains ids other) (sym split) (Contains-append_right front (other ∷ (middle ++ id ∷ back)) other (Contains-first other (middle ++ id ∷ back)))
 
-pub headers_whole : ClosuresAreClosed → OrdersHaveAll → HeadersAreWhole
-headers_whole closed have_all files registry api names r chosen order is =
+kind_of_command : (k : Kind) → is_command_kind k ≡ true → k ≡ kind.Command
+kind_of_command kind.Command is = refl
+kind_of_command _ is = absurd (false≢true is)
+
+-- in a registry that was read what names a command is a command
+command_too : OnlyCommandsNameCommands → (found : Option (List ℕ)) (api : List ℕ) (r : Rows) → IsRegistry found api r → (id other : NameId) → Names r.rows id.0 other.0 → is_command r other ≡ true → is_command r id ≡ true
+command_too only found api r read id other = go (slice_get r.rows id.0) (slice_get r.rows other.0) refl refl
+  where
+    go : (naming named : Option Row) → slice_get r.rows id.0 ≡ naming → slice_get r.rows other.0 ≡ named → IsSomeAnd naming (λ row. Contains row.named (id_at other.0))
+        → option_map_or (λ row. is_command_kind row.kind) named false ≡ true → option_map_or (λ row. is_command_kind row.kind) naming false ≡ true
+    go None named here there names command = absurd names
+    go (Some row) None here there names command = absurd (false≢true command)
+    go (Some row) (Some named) here there names command =
+        ap is_command_kind (only read.bytes api read.root r id.0 other.0 row named read.spelled read.answered here there names (kind_of_command named.kind command))
+
+pub headers_whole : ClosuresAreClosed → OrdersHaveAll → OnlyCommandsNameCommands → HeadersAreWhole
+headers_whole closed have_all only files registry api names r chosen order is =
     let counted = rows_counted (files registry) api r is.read in
     let whole = have_all r is.set (places_of order) counted (rows_in_no_circle (files registry) api r is.read) is.closure.count (closed r chosen is.set is.closure) is.ordered in
     let once = none-twice (places_of order) whole.0.once in
@@ -218,5 +240,5 @@ headers_whole closed have_all files registry api names r chosen order is =
       only = λ id among. is.closure.has_only id.0 (whole.0.only id.0 (written_only r chosen order once whole.1 id among));
       all = λ id inside. written_all r chosen order once whole.1 id (id_among order id.0 (whole.0.all id.0 (is.closure.has_all id.0 inside)));
       once = written_once r chosen order once whole.1;
-      behind = written_behind r chosen order once whole.1;
+      behind = λ id other among naming. written_behind r chosen order once whole.1 id other among naming (command_too only (files registry) api r is.read id other naming);
     }

@@ -1,12 +1,12 @@
--- What an answer to a check says: for private contracts alone.
+-- What is read for a check or a text, and what an answer to a check says: for private contracts alone.
 use Rattle.std.specs.Prelude.{◌≡◌, ◌≢◌, ◌⊎◌, ℕ, ◌<◌, List, length, Option, Some, None, Result, Ok, Err, All, ⊤}
 use Rattle.vkb_outside.specs.Faults.{Rose}
 use Rattle.vkb_outside.specs.Shelf.{Files}
 use Rattle.reg_registry.specs.Rows.{Rows, bare_rows}
 use Rattle.doc_tree.specs.Flat.{FlatLine}
 use Rattle.doc_tree.specs.declared.Document.{Document}
-use Rattle.doc_build.specs.Choices.{free_names, registry_setting}
-use Rattle.lift_check.specs.Verdict.{IsVerdict}
+use Rattle.doc_build.specs.Choices.{free_names}
+use Rattle.lift_check.specs.Verdict.{IsJudged}
 use Rattle.lift_check.specs.declared.Verdict.{Verdict}
 use Rattle.lift_check.specs.declared.Verdict.TheVariants.{Yes, No}
 use Rattle.doc_tree.specs.declared.fault.DocFault.{DocFault}
@@ -27,31 +27,27 @@ use Rattle.vkb_tool.specs.Report.{fault_line, report_of}
 abbrev pub Carries : Request → Files → Effect → Type 0
 Carries request files effect = (words : List (List ℕ)) → Spells words request → Outcome words files effect
 
--- the first fault of a document whose walk has none is told, over a registry
-pub record TellsFault (r : Rows) (lines : List FlatLine) (effect : Effect) : Type 0 where
+-- a first fault is told
+pub record TellsFault (IsFirst : Fault → Type 0) (effect : Effect) : Type 0 where
   pub fault : Fault
-  pub first : IsFaultIn r lines fault
+  pub first : IsFirst fault
   pub told : effect ≡ writes_alone Refused (fault_line fault)
 
 -- there is none, and the verdict is told
 pub record TellsVerdict (always : List (List ℕ)) (r : Rows) (lines : List FlatLine) (effect : Effect) : Type 0 where
   pub none : (fault : Fault) → ¬ IsFaultIn r lines fault
   pub verdict : Verdict
-  pub is : IsVerdict (registry_setting always r) lines verdict
+  pub is : IsJudged always r lines verdict
   pub told : effect ≡ writes_alone (status_of verdict) (report_of lines r.options verdict)
 
 -- what is told of a document whose walk has no fault, over a registry, where some names are always set
 abbrev pub TellsOf : List (List ℕ) → Rows → List FlatLine → Effect → Type 0
-TellsOf always r lines effect = TellsFault r lines effect ⊎ TellsVerdict always r lines effect
+TellsOf always r lines effect = TellsFault (IsFaultIn r lines) effect ⊎ TellsVerdict always r lines effect
 
 -- the registry that was read, or where there is none the bare one of a document
 abbrev pub IsOver : Option Rows → List (List ℕ) → List FlatLine → Rows → Type 0
 IsOver None always lines r = r ≡ bare_rows (free_names always lines)
 IsOver (Some own) always lines r = r ≡ own
-
--- what is told of such a document, over the registry that was read or a bare one
-abbrev pub TellsOver : List (List ℕ) → Option Rows → List FlatLine → Effect → Type 0
-TellsOver always own lines effect = (r : Rows) × IsOver own always lines r × TellsOf always r lines effect
 
 -- the registry that a request names was read, or it names none
 abbrev pub IsOwn : Files → Option (List ℕ) → List ℕ → Option Rows → Type 0

@@ -7,7 +7,7 @@ use Rattle.vkb_outside.specs.Sink.{Appends, AppendsPrefix}
 use Rattle.vkb_tool.specs.declared.status.Status.{Status}
 use Rattle.vkb_tool.specs.declared.status.Status.TheVariants.{Done, Broken, Usage, Refused, ReadFault, WriteFault, Memory}
 use Rattle.vkb_tool.specs.declared.words.Request.{Request}
-use Rattle.vkb_tool.specs.declared.words.Request.TheVariants.{Check, Header, Tag}
+use Rattle.vkb_tool.specs.declared.words.Request.TheVariants.{Build, Check, Header, Tag}
 use Rattle.vkb_tool.specs.Words.{Spells, IsMisplaced}
 use Rattle.vkb_tool.specs.Report.{usage_line}
 use Rattle.vkb_tool.specs.Outcome.{Effect, Put, Outcome, HasNoFault}
@@ -48,12 +48,15 @@ IsUnwritten old new = new.written ≡ old.written
 abbrev pub read_by : Request → List (List ℕ)
 read_by (Check None root api always) = root ∷ []
 read_by (Check (Some registry) root api always) = registry ∷ root ∷ []
+read_by (Build None root api names always) = root ∷ []
+read_by (Build (Some registry) root api names always) = registry ∷ root ∷ []
 read_by (Header registry api names) = registry ∷ []
 read_by (Tag first files) = files
 
 -- the files that a request names to be put
 abbrev pub put_by : Request → List (List ℕ)
 put_by (Check registry root api always) = []
+put_by (Build registry root api names always) = []
 put_by (Header registry api names) = []
 put_by (Tag first files) = files
 

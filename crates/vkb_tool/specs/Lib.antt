@@ -10,5 +10,6 @@ pub mod Declaring
 pub mod Endings
 pub mod Answer
 pub mod Check
+pub mod Asked
 pub mod Tagging
 pub mod Status

@@ -14,16 +14,17 @@ use Rattle.reg_permit.specs.declared.choosing.ChoiceFault.{ChoiceFault}
 use Rattle.reg_permit.specs.declared.choosing.ChoiceFault.TheVariants as choice
 use Rattle.hdr_writer.specs.Headers.{header}
 use Rattle.doc_build.specs.declared.Place.{Place}
-use Rattle.doc_build.specs.Choices.{Choice, free_names, registry_setting}
+use Rattle.doc_build.specs.Built.{choice_text}
+use Rattle.doc_build.specs.Choices.{Choice, free_names}
 use Rattle.lift_check.specs.declared.Verdict.{Verdict}
 use Rattle.lift_check.specs.declared.Verdict.TheVariants.{Yes, No}
 use Rattle.lift_check.specs.Choices.{most_options}
-use Rattle.lift_check.specs.Verdict.{IsVerdict}
+use Rattle.lift_check.specs.Verdict.{IsJudged}
 use Rattle.vu_tags.specs.Statements.{needed_of}
 use Rattle.vu_tags.specs.Tagged.{IsTagFault, Names, TellsPages, tagged_of}
 use Rattle.vu_tags.specs.declared.TagFault.TheVariants as tags
 use Rattle.vkb_tool.specs.declared.words.Request.{Request}
-use Rattle.vkb_tool.specs.declared.words.Request.TheVariants.{Check, Header, Tag}
+use Rattle.vkb_tool.specs.declared.words.Request.TheVariants.{Build, Check, Header, Tag}
 use Rattle.vkb_tool.specs.declared.status.Status.{Status}
 use Rattle.vkb_tool.specs.declared.status.Status.TheVariants.{Done, Broken, Usage, Refused}
 use Rattle.vkb_tool.specs.declared.registry.RegistryFault.{RegistryFault}
@@ -83,8 +84,8 @@ abbrev pub IsOffered : Files → Option (List ℕ) → List ℕ → Type 0
 IsOffered files None api = ⊤
 IsOffered files (Some name) api = (r : Rows) × IsRegistry (files name) api r
 
--- what is checked: the flat document of a root, where some names are always set, and its registry
-pub record IsChecked (files : Files) (registry : Option (List ℕ)) (root api : List ℕ) (always : List (List ℕ)) (r : Rows) (lines : List FlatLine) : Type 0 where
+-- what is checked, or built at a choice: the flat document of a root, where some names are always set, and its registry
+pub record IsSubject (files : Files) (registry : Option (List ℕ)) (root api : List ℕ) (always : List (List ℕ)) (r : Rows) (lines : List FlatLine) : Type 0 where
   pub document : IsDocument files most_text root lines
   pub over : IsRegistryOf files registry api always lines r
 
@@ -93,13 +94,37 @@ abbrev pub IsCheckFault : Files → Option (List ℕ) → List ℕ → List ℕ 
 IsCheckFault files registry root api always (InRegistry file asked fault) = (registry ≡ Some file) × (asked ≡ api) × IsRegistryFault (files file) api fault
 IsCheckFault files registry root api always (InDocument fault) = IsOffered files registry api × IsFaultOf files most_text root fault
 IsCheckFault files registry root api always (NotBuilt file number) =
-    (r : Rows) × (lines : List FlatLine) × IsChecked files registry root api always r lines × IsFaultIn r lines (NotBuilt file number)
+    (r : Rows) × (lines : List FlatLine) × IsSubject files registry root api always r lines × IsFaultIn r lines (NotBuilt file number)
 IsCheckFault files registry root api always (TooManyNames count) =
-    (r : Rows) × (lines : List FlatLine) × IsChecked files registry root api always r lines × IsFaultIn r lines (TooManyNames count)
+    (r : Rows) × (lines : List FlatLine) × IsSubject files registry root api always r lines × IsFaultIn r lines (TooManyNames count)
 IsCheckFault files registry root api always (UnknownOption word) = ⊥
 IsCheckFault files registry root api always (NotPermitted option) = ⊥
 IsCheckFault files registry root api always (BadTag file number) = ⊥
 IsCheckFault files registry root api always (NoNumber needed left) = ⊥
+
+-- why words name no permitted choice of a registry's options: the first that is none, or else the first option whose rule doesn't hold
+abbrev pub IsFaultAt : Rows → List (List ℕ) → Fault → Type 0
+IsFaultAt r names (InRegistry file api fault) = ⊥
+IsFaultAt r names (InDocument fault) = ⊥
+IsFaultAt r names (NotBuilt file number) = ⊥
+IsFaultAt r names (TooManyNames count) = ⊥
+IsFaultAt r names (UnknownOption word) = IsChoiceFault r names (choice.UnknownOption word)
+IsFaultAt r names (NotPermitted option) = (id : NameId) × IsChoiceFault r names (choice.NotPermitted id) × (option ≡ slice_index_or r.options id.0 [])
+IsFaultAt r names (BadTag file number) = ⊥
+IsFaultAt r names (NoNumber needed left) = ⊥
+
+-- the first fault of what is to be built: those of the registry go before those of the document's walk, and these before those of the choice
+abbrev pub IsBuildFault : Files → Option (List ℕ) → List ℕ → List ℕ → List (List ℕ) → List (List ℕ) → Fault → Type 0
+IsBuildFault files registry root api names always (InRegistry file asked fault) = (registry ≡ Some file) × (asked ≡ api) × IsRegistryFault (files file) api fault
+IsBuildFault files registry root api names always (InDocument fault) = IsOffered files registry api × IsFaultOf files most_text root fault
+IsBuildFault files registry root api names always (NotBuilt file number) = ⊥
+IsBuildFault files registry root api names always (TooManyNames count) = ⊥
+IsBuildFault files registry root api names always (UnknownOption word) =
+    (r : Rows) × (lines : List FlatLine) × IsSubject files registry root api always r lines × IsFaultAt r names (UnknownOption word)
+IsBuildFault files registry root api names always (NotPermitted option) =
+    (r : Rows) × (lines : List FlatLine) × IsSubject files registry root api always r lines × IsFaultAt r names (NotPermitted option)
+IsBuildFault files registry root api names always (BadTag file number) = ⊥
+IsBuildFault files registry root api names always (NoNumber needed left) = ⊥
 
 -- a registry has no fault, and words name no permitted choice of its options, for this reason
 abbrev pub IsWrongChoice : Files → List ℕ → List ℕ → List (List ℕ) → Rows → ChoiceFault → Type 0
@@ -135,6 +160,7 @@ IsTagsFault files first names (NoNumber needed left) = AreRead files names × Is
 -- the first named fault that stands in what a request asks of the files
 abbrev pub IsFirstFault : Request → Files → Fault → Type 0
 IsFirstFault (Check registry root api always) files fault = IsCheckFault files registry root api always fault
+IsFirstFault (Build registry root api names always) files fault = IsBuildFault files registry root api names always fault
 IsFirstFault (Header registry api names) files fault = IsHeaderFault files registry api names fault
 IsFirstFault (Tag first names) files fault = IsTagsFault files first names fault
 
@@ -165,6 +191,12 @@ writes_alone status output = record { status = status; output = output; puts = [
 abbrev pub puts_tags : Names → ℕ → List (List ℕ) → List (List ℕ) → Effect
 puts_tags pages first names texts = record { status = Done; output = tagged_line (needed_of texts); puts = changed names texts (tagged_of pages first texts) }
 
+-- what is built: the document of a root and its registry, the choice that words name, and its closure
+pub record IsBuilt (files : Files) (registry : Option (List ℕ)) (root api : List ℕ) (names always : List (List ℕ)) (r : Rows) (lines : List FlatLine) (chosen set : List Bool) : Type 0 where
+  pub subject : IsSubject files registry root api always r lines
+  pub choice : IsChoice r names chosen
+  pub closure : IsClosure r chosen set
+
 -- what a header declares: the registry of a file for an API, the choice that words name, and its closure in order
 pub record IsDeclared (files : Files) (registry api : List ℕ) (names : List (List ℕ)) (r : Rows) (chosen : List Bool) (order : List NameId) : Type 0 where
   pub read : IsRegistry (files registry) api r
@@ -183,8 +215,12 @@ pub data Outcome (words : List (List ℕ)) (files : Files) : Effect → Type 0 w
   -- the verdict on a document without a fault: yes, or the first link that some permitted choice breaks
   checked : (registry : Option (List ℕ)) (root api : List ℕ) (always : List (List ℕ)) (r : Rows) (lines : List FlatLine) (verdict : Verdict)
       → Spells words (Check registry root api always) → HasNoFault (Check registry root api always) files
-      → IsChecked files registry root api always r lines → IsVerdict (registry_setting always r) lines verdict
+      → IsSubject files registry root api always r lines → IsJudged always r lines verdict
       → Outcome words files (writes_alone (status_of verdict) (report_of lines r.options verdict))
+  -- the text of a document at a choice
+  built : (registry : Option (List ℕ)) (root api : List ℕ) (names always : List (List ℕ)) (r : Rows) (lines : List FlatLine) (chosen set : List Bool)
+      → Spells words (Build registry root api names always) → HasNoFault (Build registry root api names always) files
+      → IsBuilt files registry root api names always r lines chosen set → Outcome words files (writes_alone Done (choice_text always r chosen set lines))
   -- the header of what a registry declares at a choice
   declared : (registry api : List ℕ) (names : List (List ℕ)) (r : Rows) (chosen : List Bool) (order : List NameId)
       → Spells words (Header registry api names) → HasNoFault (Header registry api names) files
@@ -198,7 +234,7 @@ pub record TellsPlace (always : List (List ℕ)) (r : Rows) (lines : List FlatLi
   pub id : List ℕ
   pub choice : Choice
   pub count : ℕ
-  pub judged : IsVerdict (registry_setting always r) lines (No place id choice count)
+  pub judged : IsJudged always r lines (No place id choice count)
   pub output_is : output ≡ report_of lines r.options (No place id choice count)
 
 -- two reports on the document of a request name one place
@@ -210,7 +246,7 @@ pub record NameOnePlace (words : List (List ℕ)) (files : Files) (output other 
   pub spelled : Spells words (Check registry root api always)
   pub r : Rows
   pub lines : List FlatLine
-  pub checked : IsChecked files registry root api always r lines
+  pub checked : IsSubject files registry root api always r lines
   pub place : Place
   pub one : TellsPlace always r lines place output
   pub also : TellsPlace always r lines place other

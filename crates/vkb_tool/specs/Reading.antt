@@ -1,5 +1,5 @@
 -- What is found among the words while they are read: for private contracts alone. No public contract names it.
-use Rattle.std.specs.Prelude.{◌≡◌, ◌≢◌, ℕ, ◌-◌, ◌≤◌, List, ◌++◌, length, take, map, slice_get, codes, Option, Some, None, All, Bool, IsTrue, ⊤, if◌then◌else◌}
+use Rattle.std.specs.Prelude.{◌≡◌, ◌≢◌, ℕ, ◌+◌, ◌-◌, ◌<◌, ◌≤◌, List, ◌++◌, length, take, map, slice_get, codes, Option, Some, None, All, Bool, IsTrue, ⊤, if◌then◌else◌}
 use Rattle.std.specs.Str.{bytes_eq}
 use Rattle.doc_cond.specs.Lines.{is_run}
 use Rattle.vkb_formula.specs.Names.{AreDifferent}
@@ -23,23 +23,23 @@ goes_with registry api = if bytes_eq registry (codes "-") then bytes_eq api (cod
 abbrev pub IsApiAt : List (List ℕ) → List ℕ → List ℕ → Type 0
 IsApiAt words registry api = (slice_get words 3 ≡ Some api) × IsTrue (goes_with registry api)
 
--- the words are the first four and then those that set these attributes
-pub record SetsAttributes (words names : List (List ℕ)) : Type 0 where
+-- the words are the first so many and then those that set these attributes
+pub record SetsAttributes (from : ℕ) (words names : List (List ℕ)) : Type 0 where
   pub names_are : All IsAttribute names
-  pub words_are : words ≡ take 4 words ++ map attribute_word names
+  pub words_are : words ≡ take from words ++ map attribute_word names
 
--- the word at a position, from 1, is the first from the fifth on that sets no attribute
-pub record IsNoAttribute (words : List (List ℕ)) (position : ℕ) : Type 0 where
+-- the word at a position, from 1, is the first behind so many that sets no attribute
+pub record IsNoAttribute (from : ℕ) (words : List (List ℕ)) (position : ℕ) : Type 0 where
   pub names : List (List ℕ)
   pub names_are : All IsAttribute names
-  pub before : take (position - 1) words ≡ take 4 words ++ map attribute_word names
-  pub behind : 5 ≤ position
+  pub before : take (position - 1) words ≡ take from words ++ map attribute_word names
+  pub behind : from < position
   pub within : position ≤ length words
   pub here : (name : List ℕ) → IsAttribute name → slice_get words (position - 1) ≢ Some (attribute_word name)
 
-abbrev pub IsAttributeFault : List (List ℕ) → WordFault → Type 0
-IsAttributeFault words (Usage position) = IsNoAttribute words position
-IsAttributeFault words Memory = ⊤
+abbrev pub IsAttributeFault : ℕ → List (List ℕ) → WordFault → Type 0
+IsAttributeFault from words (Usage position) = IsNoAttribute from words position
+IsAttributeFault from words Memory = ⊤
 
 -- a word from which tags may be numbered stands at an index, from 0
 abbrev pub IsNumbered : List (List ℕ) → ℕ → ℕ → Type 0
@@ -76,20 +76,9 @@ IsRegistryNamed words name = IsNamed words 1 name × (name ≢ codes "-")
 abbrev pub IsApiThird : List (List ℕ) → List ℕ → Type 0
 IsApiThird words api = (slice_get words 2 ≡ Some api) × IsApiName api
 
--- the words are the first three and then those for options
-pub record NamesOptions (words names : List (List ℕ)) : Type 0 where
+-- behind so many words these for options stand, and then none stands or another word
+pub record LeadsOptions (from : ℕ) (words names : List (List ℕ)) : Type 0 where
   pub names_are : All IsOptionWord names
-  pub words_are : words ≡ take 3 words ++ names
-
--- the word at a position, from 1, is the first from the fourth on that is none for an option
-pub record IsNoOption (words : List (List ℕ)) (position : ℕ) : Type 0 where
-  pub names : List (List ℕ)
-  pub names_are : All IsOptionWord names
-  pub before : take (position - 1) words ≡ take 3 words ++ names
-  pub behind : 4 ≤ position
-  pub within : position ≤ length words
-  pub here : (name : List ℕ) → IsOptionWord name → slice_get words (position - 1) ≢ Some name
-
-abbrev pub IsOptionFault : List (List ℕ) → WordFault → Type 0
-IsOptionFault words (Usage position) = IsNoOption words position
-IsOptionFault words Memory = ⊤
+  pub words_are : take (from + length names) words ≡ take from words ++ names
+  pub within : from + length names ≤ length words
+  pub next : (name : List ℕ) → IsOptionWord name → slice_get words (from + length names) ≢ Some name

@@ -7,7 +7,7 @@ use Rattle.vkb_bytes.specs.Numbers.{numeral_of}
 use Rattle.vkb_formula.specs.Names.{AreDifferent}
 use Rattle.doc_cond.specs.Lines.{is_name_byte, is_run}
 use Rattle.vkb_tool.specs.declared.words.Request.{Request}
-use Rattle.vkb_tool.specs.declared.words.Request.TheVariants.{Check, Header, Tag}
+use Rattle.vkb_tool.specs.declared.words.Request.TheVariants.{Build, Check, Header, Tag}
 use Rattle.vkb_tool.specs.declared.words.WordFault.{WordFault}
 use Rattle.vkb_tool.specs.declared.words.WordFault.TheVariants.{Usage, Memory}
 
@@ -68,6 +68,8 @@ IsOptionWord word = IsTrue (names_option word)
 abbrev pub Spells : List (List ℕ) → Request → Type 0
 Spells words (Check registry root api always) = IsApiOf registry api × IsFileName root × All IsAttribute always
     × (words ≡ codes "check" ∷ registry_word registry ∷ root ∷ api ∷ map attribute_word always)
+Spells words (Build registry root api names always) = IsApiOf registry api × IsFileName root × All IsOptionWord names × All IsAttribute always
+    × (words ≡ codes "build" ∷ registry_word registry ∷ root ∷ api ∷ (names ++ map attribute_word always))
 Spells words (Header registry api names) = IsApiOf (Some registry) api × All IsOptionWord names × (words ≡ codes "header" ∷ registry ∷ api ∷ names)
 Spells words (Tag first files) = (word : List ℕ) × WritesFirst word first × AreFileNames files × (words ≡ codes "tag" ∷ word ∷ files)
 

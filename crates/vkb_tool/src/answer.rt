@@ -1,21 +1,26 @@
-ghost use Rattle.std.specs.Prelude.{◌≡◌, ◌^◌, ◌<◌, [], length, map, Some, IfErr, IfOk, IfSome};
+ghost use Rattle.std.specs.Prelude.{◌≡◌, ◌^◌, ◌<◌, List, ℕ, [], length, map, Some, IfErr, IfOk, IfSome};
 ghost use Rattle.doc_tree.specs.Answer.{told_of};
 ghost use Rattle.doc_tree.specs.Fault.{Fault as DocumentFault};
 ghost use Rattle.vkb_tool.specs.Answer.{AnswersWords, AreHeld, CountsReading, Delivers, IsAskedFor, PutsAll, effect_of, put_of};
-ghost use Rattle.vkb_tool.specs.Check.{IsTroubleOf};
+ghost use Rattle.reg_permit.specs.Choices.{IsChoiceFault};
+ghost use Rattle.vkb_tool.specs.Check.{IsTroubleOf, TellsFault};
 ghost use Rattle.vkb_tool.specs.Fault.{InRegistry};
-ghost use Rattle.vkb_tool.specs.Outcome.{Outcome, writes_alone};
+ghost use Rattle.vkb_tool.specs.Outcome.{IsFaultAt, Outcome, writes_alone};
 ghost use Rattle.vkb_tool.specs.Report.{document_fault_line, fault_line, usage_line};
 ghost use Rattle.vkb_tool.specs.Words.{items_of};
 
-use crate::check::check;
+use crate::document::{Task, answer_on};
 use crate::header::header;
 use crate::registry::RegistryFault;
-use crate::report::{document_fault_text, registry_fault_text, usage_text};
+use crate::report::{
+    document_fault_text, not_permitted_text, registry_fault_text, unknown_option_text, usage_text,
+};
 use crate::tags::tag;
 use crate::words::{Request, WordFault, read_words};
 use crate::{Memory, Status};
 use doc_tree::DocFault;
+use reg_permit::ChoiceFault;
+use reg_registry::Registry;
 use std::alloc::Global;
 use vkb_bytes::{Bytes, Listed, Text};
 use vkb_outside::{PutTrouble, Shelf, Sink};
@@ -88,9 +93,27 @@ pub fn answer_words<S: Shelf>(
                 api,
                 always,
             },
-        ) => check(
+        ) => answer_on(
             alloc,
             shelf,
+            &Task::Check,
+            &registry,
+            root.as_str(),
+            api.as_slice(),
+            always.as_slice(),
+        ),
+        Ok(
+            Request::Build {
+                registry,
+                root,
+                api,
+                names,
+                always,
+            },
+        ) => answer_on(
+            alloc,
+            shelf,
+            &Task::Build { names },
             &registry,
             root.as_str(),
             api.as_slice(),
@@ -146,6 +169,33 @@ pub fn refuse_registry(
 {
     let output = registry_fault_text(alloc, file, api, fault)?;
     Ok(written(alloc, Status::Refused, output))
+}
+
+/// The answer to words that name no permitted choice of a registry's options. Want of memory has none.
+pub fn refuse_choice(
+    alloc: Global,
+    registry: &Registry,
+    fault: &ChoiceFault,
+) -> Result<Answer, Memory>
+    requires { (names : List (List ℕ)) × IsChoiceFault registry.now names fault.now }
+    ensures told { (names : List (List ℕ)) → IsChoiceFault registry.now names fault.now
+        → IfOk result (λ answer. TellsFault (IsFaultAt registry.now names) (effect_of answer)) }
+    ensures status { IfOk result (λ answer. answer.status ≡ Status.Refused) }
+    ensures unput { IfOk result (λ answer. answer.puts ≡ []) }
+{
+    // The option whose rule doesn't hold has a name.
+    registry.is_sound();
+    match fault {
+        ChoiceFault::UnknownOption { word } => {
+            let output = unknown_option_text(alloc, word.as_slice())?;
+            Ok(written(alloc, Status::Refused, output))
+        }
+        ChoiceFault::NotPermitted { option } => {
+            let output = not_permitted_text(alloc, registry.options().name(*option))?;
+            Ok(written(alloc, Status::Refused, output))
+        }
+        ChoiceFault::Memory => Err(Memory),
+    }
 }
 
 /// Puts the files of an answer and then writes its output, and gives its status where that is done. It takes memory before the

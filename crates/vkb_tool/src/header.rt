@@ -1,19 +1,15 @@
 //! The command `header`: the C header of what a registry declares at a choice of its options.
-ghost use Rattle.std.specs.Prelude.{◌≡◌, ◌<◌, List, ℕ, [], length, map, slice_index_or, All, IfOk, IfSome};
-ghost use Rattle.reg_permit.specs.Choices.{IsChoice, IsChoiceFault};
-ghost use Rattle.reg_permit.specs.declared.choosing.ChoiceFault.TheVariants as choice;
+ghost use Rattle.std.specs.Prelude.{◌≡◌, [], length, IfOk, IfSome};
 ghost use Rattle.vkb_tool.specs.Answer.{CountsReading, IsRequestStatus, effect_of};
 ghost use Rattle.vkb_tool.specs.Check.{Carries};
-ghost use Rattle.vkb_tool.specs.Declaring.{TellsHeader, TellsOfOptions};
-ghost use Rattle.vkb_tool.specs.Outcome.{writes_alone};
+ghost use Rattle.vkb_tool.specs.Declaring.{TellsAtChoice, TellsHeader};
 
-use crate::answer::{Answer, Trouble, refuse_registry, written};
+use crate::answer::{Answer, Trouble, refuse_choice, refuse_registry, written};
 use crate::registry::{Unread, read_registry};
-use crate::report::{not_permitted_text, unknown_option_text};
 use crate::{Memory, Request, Status};
 use hdr_writer::header as header_text;
 use reg_closure::{closure, order};
-use reg_permit::{ChoiceFault, choice_of};
+use reg_permit::choice_of;
 use reg_reader::one_answer;
 use reg_registry::{Choice, Registry};
 use reg_rows::answers_are_one;
@@ -49,23 +45,13 @@ pub fn header<S: Shelf>(
 
 /// What is told of words for options, over a registry.
 fn tell(alloc: Global, registry: &Registry, names: &[Bytes]) -> Result<Answer, Memory>
-    ensures told { IfOk result (λ answer. TellsOfOptions registry.now names.now (effect_of answer)) }
+    ensures told { IfOk result (λ answer. TellsAtChoice registry.now names.now (TellsHeader registry.now) (effect_of answer)) }
     ensures status { IfOk result (λ answer. IsRequestStatus answer.status) }
     ensures unput { IfOk result (λ answer. answer.puts ≡ []) }
 {
-    // The option whose rule doesn't hold has a name.
-    registry.is_sound();
     match choice_of(alloc, registry, names) {
         Ok(choice) => declare(alloc, registry, &choice),
-        Err(ChoiceFault::UnknownOption { word }) => {
-            let output = unknown_option_text(alloc, word.as_slice())?;
-            Ok(written(alloc, Status::Refused, output))
-        }
-        Err(ChoiceFault::NotPermitted { option }) => {
-            let output = not_permitted_text(alloc, registry.options().name(option))?;
-            Ok(written(alloc, Status::Refused, output))
-        }
-        Err(ChoiceFault::Memory) => Err(Memory),
+        Err(fault) => refuse_choice(alloc, registry, &fault),
     }
 }
 

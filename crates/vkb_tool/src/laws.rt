@@ -10,14 +10,16 @@ ghost use Rattle.vkb_tool.specs.declared.status.Status.TheVariants.{Broken};
 
 use crate::Request;
 use doc_tree::{files_have_sources, one_walk};
-use lift_check::one_verdict;
+use lift_check::{judged_without_pages, one_verdict};
 use reg_closure::{
     closures_are_closed, closures_are_there, one_closure, one_order, orders_are_there,
     orders_have_all,
 };
 use reg_permit::{choices_are_permitted_or_break_one_first, choices_are_permitted_or_not};
 use reg_reader::one_answer;
-use reg_rows::{answers_are_one, each_registry_is_answered, rows_are_within};
+use reg_rows::{
+    answers_are_one, each_registry_is_answered, only_commands_name_commands, rows_are_within,
+};
 use vu_tags::pages_are_one;
 
 /// Words ask for one request at most, and where they ask for none, one position at most is that of the first that has no place.
@@ -68,6 +70,7 @@ pub fn each_has_an_outcome()
     answers_are_one();
     each_registry_is_answered();
     rows_are_within();
+    judged_without_pages();
     choices_are_permitted_or_not();
     choices_are_permitted_or_break_one_first();
     closures_are_there();
@@ -75,10 +78,11 @@ pub fn each_has_an_outcome()
 }
 
 /// A header that is written declares each name of the closure, once, and no other, in the order that is told, in which each stands behind all that it
-/// names. Only a command that is named by what is none may stand behind that: commands stand behind all others.
+/// names. That commands stand behind all others leaves it so, since only commands name commands.
 pub fn headers_are_whole()
     ensures { HeadersAreWhole }
 {
     closures_are_closed();
     orders_have_all();
+    only_commands_name_commands();
 }

@@ -3,7 +3,9 @@
 #![tactic(auto)]
 
 mod answer;
+mod build;
 mod check;
+mod document;
 mod header;
 mod laws;
 mod program;

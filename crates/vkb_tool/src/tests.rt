@@ -1,3 +1,4 @@
+mod builds;
 mod chapters;
 mod headers;
 mod registries;

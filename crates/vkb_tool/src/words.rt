@@ -3,10 +3,12 @@ ghost use Rattle.std.specs.Option.{option_copied};
 ghost use Rattle.vkb_tool.specs.Reading.{IsNamed};
 ghost use Rattle.vkb_tool.specs.Words.{IsWordFault, Spells, items_of};
 
+mod build;
 mod check;
 mod header;
 mod tag;
 
+use build::read_build;
 use check::read_check;
 use header::read_header;
 use std::alloc::{AllocError, AllocFailed, Global};
@@ -24,6 +26,15 @@ pub enum Request {
         registry: Option<Text>,
         root: Text,
         api: Bytes,
+        always: Listed<Bytes>,
+    },
+    /// The text that is built of the document of a root at the choice of these options, where these names of conditions are always
+    /// set. Its options and pages are those of a registry for an API; without one the API is `-`.
+    Build {
+        registry: Option<Text>,
+        root: Text,
+        api: Bytes,
+        names: Listed<Bytes>,
         always: Listed<Bytes>,
     },
     /// The header of what a registry declares for an API at the choice of these options, of which one may stand twice.
@@ -86,6 +97,8 @@ impl From<Memory> for WordFault {
 ///
 /// - `check REG ROOT API`, where REG and ROOT are files' names and API is one or more letters and digits, or REG and API are both `-`; and then any
 ///   number of `+ATTR`, where ATTR is one or more letters, digits, `_` and `-`;
+/// - `build REG ROOT API`, where these are as in `check`, then any number of NAME, none of which is empty or begins with `+`, and then any number of
+///   `+ATTR` as there;
 /// - `header REG API`, where REG is a file's name that isn't `-`, and then any number of NAME, none of which is empty or begins with `+`;
 /// - `tag FIRST` and one or more FILE, where FIRST is one to five digits, from 1 to 99999, and each FILE is another file's name.
 pub fn read_words(alloc: Global, words: &[Vec<u8>]) -> Result<Request, WordFault>
@@ -95,6 +108,9 @@ pub fn read_words(alloc: Global, words: &[Vec<u8>]) -> Result<Request, WordFault
 {
     if has_word(words, 0, b"check") {
         return read_check(alloc, words);
+    }
+    if has_word(words, 0, b"build") {
+        return read_build(alloc, words);
     }
     if has_word(words, 0, b"header") {
         return read_header(alloc, words);

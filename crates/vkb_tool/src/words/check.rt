@@ -26,7 +26,7 @@ pub(super) fn read_check(alloc: Global, words: &[Vec<u8>]) -> Result<Request, Wo
     let Some(api) = api_of(words, registry) else {
         return Err(WordFault::Usage { position: 4 });
     };
-    let always = attributes(alloc, words)?;
+    let always = attributes(alloc, words, 4)?;
     let root = String::from_str(alloc, root)?;
     let api = Bytes::from_slice(alloc, api)?;
     Ok(Request::Check {
@@ -38,7 +38,7 @@ pub(super) fn read_check(alloc: Global, words: &[Vec<u8>]) -> Result<Request, Wo
 }
 
 /// The file of a registry by its word, which is `-` where there is none.
-fn registry_file(alloc: Global, word: &str) -> Result<Option<Text>, WordFault>
+pub(super) fn registry_file(alloc: Global, word: &str) -> Result<Option<Text>, WordFault>
     ensures read { IfOk result (λ file. file ≡ registry_by word.now) }
     ensures wrong { IfErr result (λ fault. fault ≡ WordFault.Memory) }
 {
@@ -50,7 +50,7 @@ fn registry_file(alloc: Global, word: &str) -> Result<Option<Text>, WordFault>
 }
 
 /// The word of the API, the fourth, if it goes with the word of the registry.
-fn api_of<'a>(words: &'a [Vec<u8>], registry: &str) -> Option<&'a [u8]>
+pub(super) fn api_of<'a>(words: &'a [Vec<u8>], registry: &str) -> Option<&'a [u8]>
     ensures goes { IfSome result (λ api. IsApiAt (items_of words.now) registry.now api.now) }
     ensures none { IfNone result ((api : List ℕ) → ¬ (IsApiAt (items_of words.now) registry.now api)) }
 {
@@ -85,15 +85,19 @@ fn all_api_bytes(api: &[u8]) -> bool
     api.iter().all(|byte| is_letter(*byte) || is_digit(*byte))
 }
 
-/// The names of the attributes that the words from the fifth on set.
-fn attributes(alloc: Global, words: &[Vec<u8>]) -> Result<Vec<Bytes>, WordFault>
+/// The names of the attributes that the words from an index on, from 0, set.
+pub(super) fn attributes(
+    alloc: Global,
+    words: &[Vec<u8>],
+    from: usize,
+) -> Result<Vec<Bytes>, WordFault>
     requires few { length words.now < 2 ^ 32 }
-    requires enough { 4 ≤ length words.now }
-    ensures read { IfOk result (λ names. SetsAttributes (items_of words.now) names.items) }
-    ensures wrong { IfErr result (IsAttributeFault (items_of words.now)) }
+    requires enough { from ≤ length words.now }
+    ensures read { IfOk result (λ names. SetsAttributes from (items_of words.now) names.items) }
+    ensures wrong { IfErr result (IsAttributeFault from (items_of words.now)) }
 {
     let mut names = Vec::new(alloc);
-    for at in 4..words.len() {
+    for at in from..words.len() {
         let Some(name) = attribute(words[at].as_slice()) else {
             return Err(WordFault::Usage {
                 position: at as u32 + 1,

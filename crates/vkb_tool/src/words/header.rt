@@ -1,12 +1,12 @@
 //! The words of a request for a header.
 ghost use Rattle.std.specs.Prelude.{◌≡◌, ℕ, ◌+◌, ◌^◌, ◌<◌, ◌≤◌, codes, Some, length, slice_get, List, IfSome, IfNone, IfOk, IfErr};
-ghost use Rattle.vkb_tool.specs.Reading.{IsApiThird, IsOptionFault, IsRegistryNamed, NamesOptions};
+ghost use Rattle.vkb_tool.specs.Reading.{IsApiThird, IsRegistryNamed, LeadsOptions};
 ghost use Rattle.vkb_tool.specs.Words.{IsOptionWord, IsWordFault, Spells, items_of, names_option};
 
 use super::check::is_api_name;
 use super::{Request, WordFault, file_name, word_at};
 use std::alloc::Global;
-use vkb_bytes::{Bytes, Listed, Text};
+use vkb_bytes::{Bytes, Listed, Memory, Text};
 
 /// Reads the words behind `header`.
 pub(super) fn read_header(alloc: Global, words: &[Vec<u8>]) -> Result<Request, WordFault>
@@ -21,7 +21,13 @@ pub(super) fn read_header(alloc: Global, words: &[Vec<u8>]) -> Result<Request, W
     let Some(api) = api_name(words) else {
         return Err(WordFault::Usage { position: 3 });
     };
-    let names = option_words(alloc, words)?;
+    let names = option_words(alloc, words, 3)?;
+    let end = 3 + names.len();
+    if end < words.len() {
+        return Err(WordFault::Usage {
+            position: end as u32 + 1,
+        });
+    }
     let registry = String::from_str(alloc, registry)?;
     let api = Bytes::from_slice(alloc, api)?;
     Ok(Request::Header {
@@ -49,19 +55,19 @@ fn api_name(words: &[Vec<u8>]) -> Option<&[u8]>
     if is_api_name(api) { Some(api) } else { None }
 }
 
-/// The words for options, from the fourth on.
-fn option_words(alloc: Global, words: &[Vec<u8>]) -> Result<Vec<Bytes>, WordFault>
-    requires few { length words.now < 2 ^ 32 }
-    requires enough { 3 ≤ length words.now }
-    ensures read { IfOk result (λ names. NamesOptions (items_of words.now) names.items) }
-    ensures wrong { IfErr result (IsOptionFault (items_of words.now)) }
+/// The words for options that stand from an index on, from 0, up to the first word that is none.
+pub(super) fn option_words(
+    alloc: Global,
+    words: &[Vec<u8>],
+    from: usize,
+) -> Result<Vec<Bytes>, Memory>
+    requires { from ≤ length words.now }
+    ensures { IfOk result (λ names. LeadsOptions from (items_of words.now) names.items) }
 {
     let mut names = Vec::new(alloc);
-    for at in 3..words.len() {
+    for at in from..words.len() {
         let Some(name) = option_word(words[at].as_slice()) else {
-            return Err(WordFault::Usage {
-                position: at as u32 + 1,
-            });
+            return Ok(names);
         };
         names.push(Bytes::from_slice(alloc, name)?)?;
     }

@@ -3,7 +3,8 @@ use Rattle.vkb_formula.specs.Pools.{pool_values}
 use Rattle.vkb_formula.specs.declared.pool.NodeId.{NodeId}
 use Rattle.doc_build.specs.Choices.{Choice}
 use Rattle.lift_check.specs.Keeping.{is_on, node_in}
-use Rattle.lift_check.specs.Nodes.{AreNodes, meets, met_at, met_from}
+use Rattle.doc_build.specs.Keeping.{met_at, met_from}
+use Rattle.lift_check.specs.Nodes.{AreNodes, meets}
 use Rattle.lift_check.proofs.ConditionLemmas.{met_from-more, node_in-met}
 use Rattle.lift_check.proofs.NodesLemmas.{AreNodes-more, HoldsOptions-keeps}
 use Rattle.lift_check.proofs.conditions.cond_nodes.Goals as goal

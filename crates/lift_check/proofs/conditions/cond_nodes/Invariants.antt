@@ -1,5 +1,6 @@
 use Rattle.std.proofs.Common.{[], take}
-use Rattle.lift_check.specs.Nodes.{AreNodes, meets, met_from}
+use Rattle.doc_build.specs.Keeping.{met_from}
+use Rattle.lift_check.specs.Nodes.{AreNodes, meets}
 use Rattle.lift_check.proofs.conditions.cond_nodes.Given as goal
 
 -- the conditions so far have their nodes

@@ -2,7 +2,7 @@ use Rattle.std.proofs.Common.{◌≡◌, ◌<◌, List, length, map, sym, ap, �
 use Rattle.std.proofs.lemmas.List.Elements.{All-map, All-same}
 use Rattle.vkb_formula.specs.declared.pool.NodeId.{NodeId}
 use Rattle.doc_tree.specs.Loaded.{flat_of}
-use Rattle.doc_build.specs.Choices.{registry_setting}
+use Rattle.doc_build.specs.Choices.{pageless_setting}
 use Rattle.lift_check.specs.Keeping.{KeepsLines, node_of}
 use Rattle.lift_check.specs.Lines.{AreLineNodes}
 use Rattle.lift_check.proofs.LinesLemmas.{keeps-more, nodes_of_lines}
@@ -23,7 +23,7 @@ try_nodes-requires-clause-within c =
     let pool = c.put_permit.new.pool in
     let conds = c.in_ok-conditions.conditions.nodes in
     let always = c.requires.settings.0 in
-    let before : KeepsLines (registry_setting always r) text d c.in_ok-conditions.conditions.pool conds =
+    let before : KeepsLines (pageless_setting always r) text d c.in_ok-conditions.conditions.pool conds =
     c.in_ok-conditions.ensures.lines text always r c.requires.loaded c.is_sound.ensures.options_differ c.requires.settings.1 in
     let keeps = keeps-more always r text d c.in_ok-conditions.conditions.pool pool conds c.in_ok-permit.permit before c.in_ok-permit.ensures in
     let same : c.as_slice-2.result.now ≡ map (node_of conds) d.lines = c.as_slice-2.ensures.value ∙ (c.in_ok-nodes.ensures ∙ ap (map (node_of conds)) c.as_slice.ensures) in
@@ -36,10 +36,10 @@ returns c always are =
     let r = c.args.r.now in
     let pool = c.put_permit.new.pool in
     let conds = c.in_ok-conditions.conditions.nodes in
-    let before : KeepsLines (registry_setting always r) text d c.in_ok-conditions.conditions.pool conds =
+    let before : KeepsLines (pageless_setting always r) text d c.in_ok-conditions.conditions.pool conds =
     c.in_ok-conditions.ensures.lines text always r c.requires.loaded c.is_sound.ensures.options_differ are in
     let keeps = keeps-more always r text d c.in_ok-conditions.conditions.pool pool conds c.in_ok-permit.permit before c.in_ok-permit.ensures in
     let same : c.as_slice-2.result.now ≡ map (node_of conds) d.lines = c.as_slice-2.ensures.value ∙ (c.in_ok-nodes.ensures ∙ ap (map (node_of conds)) c.as_slice.ensures) in
-    let nodes : AreLineNodes (registry_setting always r) (flat_of text d) pool (map (node_of conds) d.lines) =
-    nodes_of_lines (registry_setting always r) text d pool (node_of conds) keeps.within keeps.reach (λ choice fits. keeps.kept choice) in
-    c.in_ok-verdict.ensures always r (c.len.ensures ∙ are.count) (subst (λ (ns : List NodeId). AreLineNodes (registry_setting always r) (flat_of text d) pool ns) (sym same) nodes) c.in_ok-permit.ensures.says
+    let nodes : AreLineNodes (pageless_setting always r) (flat_of text d) pool (map (node_of conds) d.lines) =
+    nodes_of_lines (pageless_setting always r) text d pool (node_of conds) keeps.within keeps.reach (λ choice fits. keeps.kept choice) in
+    c.in_ok-verdict.ensures always r (c.len.ensures ∙ are.count) (subst (λ (ns : List NodeId). AreLineNodes (pageless_setting always r) (flat_of text d) pool ns) (sym same) nodes) c.in_ok-permit.ensures.says

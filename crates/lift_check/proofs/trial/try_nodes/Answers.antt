@@ -5,7 +5,7 @@ use Rattle.std.proofs.lemmas.Result.{IfOk-weaker}
 use Rattle.doc_tree.specs.Flat.{FlatLine}
 use Rattle.doc_tree.specs.Loaded.{flat_line, flat_of, rounds_of}
 use Rattle.reg_registry.specs.Rows.{Rows, bare_rows}
-use Rattle.doc_build.specs.Choices.{registry_setting}
+use Rattle.doc_build.specs.Choices.{pageless_setting}
 use Rattle.doc_build.specs.Pieces.{Anchor, Link, anchors_of, links_of}
 use Rattle.lift_check.specs.Lines.{AreLineNodes}
 use Rattle.lift_check.specs.Permits.{SaysPermits}
@@ -67,7 +67,7 @@ returns c =
       written = λ set place id. c.ids_as_written.ensures lines set place id c.requires.unset;
     } in
     IfOk-weaker c.verdict_by.result (IsVerdictBy survey.ids c.as_slice-3.result.now broken)
-    (λ verdict. (always : List (List ℕ)) (r : Rows) → c.args.options ≡ length r.options → AreLineNodes (registry_setting always r) lines pool nodes → SaysPermits r pool c.args.permit → IsVerdict (registry_setting always r) lines verdict)
+    (λ verdict. (always : List (List ℕ)) (r : Rows) → c.args.options ≡ length r.options → AreLineNodes (pageless_setting always r) lines pool nodes → SaysPermits r pool c.args.permit → IsVerdict (pageless_setting always r) lines verdict)
     (λ verdict by always r count are says.
     verdict_is always r lines pool c.args.permit nodes survey.ids survey.anchors.items survey.links.items (laws always r) are says c.in_ok-survey.ensures.survey broken verdict
     (rw (sym c.as_slice-3.ensures.value) by) (subst (λ (n : ℕ). IsFound pool c.args.permit nodes n survey.anchors.items survey.links.items broken) count found))

@@ -10,7 +10,8 @@ use Rattle.vkb_tool.specs.declared.status.Status.TheVariants.{Refused}
 use Rattle.vkb_tool.specs.Fault.{NotBuilt, TooManyNames}
 use Rattle.vkb_tool.specs.Outcome.{AreBuilt, is_unbuilt, status_of, writes_alone}
 use Rattle.vkb_tool.specs.Report.{report_of}
-use Rattle.vkb_tool.proofs.CheckLemmas.{names_within, none-else, found_first, found_none, no_pages_set, nothing_wrong}
+use Rattle.vkb_tool.proofs.CheckLemmas.{names_within, none-else, found_first, found_none, no_pages_included, no_pages_set, nothing_wrong}
+use Rattle.vkb_tool.proofs.ChoiceLemmas.{soundly_within}
 use Rattle.vkb_tool.proofs.check.tell.Goals as goal
 
 -- all lines are built, where none was found that isn't
@@ -81,7 +82,7 @@ returns-clause-told c =
     inr (record {
       none = nothing_wrong r lines built few;
       verdict = verdict;
-      is = c.in_ok-verdict.ensures always c.in_ok-options.ensures;
+      is = c.judged_without_pages.ensures always r lines verdict c.is_sound.ensures.rows_count (soundly_within r c.is_sound.ensures) (no_pages_included r lines built) (c.in_ok-verdict.ensures always c.in_ok-options.ensures);
       told = c.written-2.ensures
           ∙ ap (λ (output : List ℕ). writes_alone c.status_by.result output) (c.in_ok-output-3.ensures text)
           ∙ ap (λ (status : Status). writes_alone status (report_of lines c.options-3.result.now verdict)) c.status_by.ensures

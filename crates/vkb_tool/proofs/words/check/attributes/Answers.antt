@@ -42,8 +42,8 @@ loop-at-preserved c =
       words_are =
           take_next (items_of words) at word.items read
           ∙ ap (λ (ws : List (List ℕ)). ws ++ word.items ∷ []) was.words_are
-          ∙ append_assoc (take 4 (items_of words)) (map attribute_word c.loop-at.names.items) (word.items ∷ [])
-          ∙ ap (λ (w : List ℕ). take 4 (items_of words) ++ (map attribute_word c.loop-at.names.items ++ w ∷ [])) (sym c.as_slice.ensures.value ∙ set.1)
-          ∙ ap (λ (ws : List (List ℕ)). take 4 (items_of words) ++ ws) (sym (map_push attribute_word c.loop-at.names.items name))
-          ∙ ap (λ (ns : List (List ℕ)). take 4 (items_of words) ++ map attribute_word ns) (sym pushed);
+          ∙ append_assoc (take c.args.from (items_of words)) (map attribute_word c.loop-at.names.items) (word.items ∷ [])
+          ∙ ap (λ (w : List ℕ). take c.args.from (items_of words) ++ (map attribute_word c.loop-at.names.items ++ w ∷ [])) (sym c.as_slice.ensures.value ∙ set.1)
+          ∙ ap (λ (ws : List (List ℕ)). take c.args.from (items_of words) ++ ws) (sym (map_push attribute_word c.loop-at.names.items name))
+          ∙ ap (λ (ns : List (List ℕ)). take c.args.from (items_of words) ++ map attribute_word ns) (sym pushed);
     }

@@ -1,0 +1,4 @@
+pub mod Cases
+pub mod Giving
+pub mod Nodes
+pub mod Putting
