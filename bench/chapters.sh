@@ -1,6 +1,6 @@
 #!/bin/bash
 # The time that `check` takes on documents of many files: many chapters behind one another, and files in one another, each with many conditionals.
-#   bench/chapters.sh         (needs python3, and the program built by ./vkbuild)
+#   bench/chapters.sh [PROGRAM]         (needs python3, and the program built by ./vkbuild where none is named)
 source "$(dirname "$0")/timed_check.sh"
 mkdir -p chapters
 

@@ -1,6 +1,6 @@
 #!/bin/bash
 # The time that `check` takes against the size of the text, on texts made from the glossary that Debian's git-doc ships.
-#   bench/check.sh            (needs `apt-get install git-doc`, and the program built by ./vkbuild)
+#   bench/check.sh [PROGRAM]       (needs `apt-get install git-doc`, and the program built by ./vkbuild where none is named)
 set -eu
 glossary=$( (dpkg -L git-doc || true) 2>/dev/null | grep glossary-content.txt) || { echo "bench: git-doc isn't installed: apt-get install git-doc" >&2; exit 2; }
 source "$(dirname "$0")/timed_check.sh"

@@ -1,6 +1,6 @@
 #!/bin/bash
 # The time that `check` takes where the ids are chosen to fall into one group of the table that counts them, against plain ids.
-#   bench/collide.sh          (needs a C compiler, and the program built by ./vkbuild)
+#   bench/collide.sh [PROGRAM]          (needs a C compiler, and the program built by ./vkbuild where none is named)
 source "$(dirname "$0")/timed_check.sh"
 cc -O2 -o collide "$top/bench/collide.c"
 for count in 10000 20000 40000 100000; do

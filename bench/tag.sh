@@ -1,6 +1,6 @@
 #!/bin/bash
 # The time that `tag` takes on 200 files of 1 MB with 100,000 statements, of which seven of ten have no tag, beside that of a copy.
-#   bench/tag.sh              (needs python3, and the program built by ./vkbuild)
+#   bench/tag.sh [PROGRAM]              (needs python3, and the program built by ./vkbuild where none is named)
 source "$(dirname "$0")/timed_check.sh"
 mkdir old
 
@@ -32,6 +32,6 @@ timed() {
 timed cp -r old new
 printf '%9d bytes  cp               %.2f s\n' "$size" "$seconds"
 for time in first again; do
-  timed "$top/vkbuild" tag 1 new/*.adoc
+  timed "$program" tag 1 new/*.adoc
   printf '%9d bytes  %-15s  %.2f s (tag, %s)\n' "$size" "$answer" "$seconds" "$time"
 done

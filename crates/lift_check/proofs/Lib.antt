@@ -1,12 +1,9 @@
 pub mod ZipLemmas
-pub mod LinesLemmas
-pub mod ChoicesLemmas
-pub mod MarksLemmas
-pub mod PiecesLemmas
-pub mod SearchLemmas
-pub mod TriedLemmas
-pub mod SitesLemmas
+pub mod CountLemmas
+pub mod SightedLemmas
+pub mod TellingLemmas
 pub mod VerdictLemmas
+pub mod PreparedLemmas
 pub mod LawLemmas
 pub mod JudgedLemmas
 pub mod ConditionLemmas
@@ -16,3 +13,4 @@ pub mod OptionsLemmas
 pub mod SettingLemmas
 pub mod PermitLemmas
 pub mod NameLemmas
+pub mod PooledLemmas

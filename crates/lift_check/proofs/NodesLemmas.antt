@@ -9,6 +9,7 @@ use Rattle.vkb_formula.specs.declared.pool.NodeId.{NodeId}
 use Rattle.vkb_formula.specs.declared.pool.PoolNode.{PoolNode}
 use Rattle.vkb_formula.specs.declared.pool.PoolNode.TheVariants as node
 use Rattle.doc_build.specs.Choices.{Choice}
+use Rattle.lift_nodes.specs.Cases.{AreConstant}
 use Rattle.lift_check.specs.declared.options.Setting.{Setting}
 use Rattle.lift_check.specs.declared.options.Setting.TheVariants.{Fixed, Free, Unset}
 use Rattle.lift_check.specs.Keeping.{is_on}
@@ -48,6 +49,15 @@ HoldsOptions-keeps options old new holds keeps = record {
   always = λ choice. keeps.kept choice (record { 0 = 0 }) (omega (arith, holds.count)) ∙ holds.always choice;
   never = λ choice. keeps.kept choice (record { 0 = 1 }) (omega (arith, holds.count)) ∙ holds.never choice;
   each = λ choice option below. keeps.kept choice (record { 0 = option + 2 }) (omega (arith, below, holds.count)) ∙ holds.each choice option below;
+}
+
+-- the first two are the constants
+pub HoldsOptions-constant : (options : ℕ) (pool : List PoolNode) → HoldsOptions options pool → AreConstant pool (record { always = record { 0 = 0 }; never = record { 0 = 1 } })
+HoldsOptions-constant options pool holds = record {
+  always_held = omega (arith, holds.count);
+  never_held = omega (arith, holds.count);
+  always = holds.always;
+  never = holds.never;
 }
 
 -- a pool of the one true node and one false node

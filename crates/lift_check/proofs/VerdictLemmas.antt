@@ -1,181 +1,189 @@
--- What the search through all permitted choices finds is the verdict on the document.
-use Rattle.std.proofs.Common.{inl, inr, ◌≡◌, ℕ, ◌+◌, ◌<◌, Bool, true, false, not, ◌&&◌, eqb, eq-eqb, List, [], ◌∷◌, ◌++◌, length, take, drop, get_or, Option, Some, None, IfSome, slice_get, count_by, refl, sym, ap, ◌∙◌, subst, arith, All, Contains}
-use Rattle.std.specs.Prelude.{filter}
+-- The first link that breaks by the nodes is the first that some permitted choice breaks.
+use Rattle.std.proofs.Common.{◌≡◌, ◌∙◌, sym, ap, subst, ℕ, ◌+◌, ◌<◌, Bool, true, false, not, eqb, List, [], ◌∷◌, ◌++◌, length, map, take, drop, get_or, slice_get, replicate, Option, Some, None, IfSome, All, Contains, arith}
 use Rattle.std.specs.List.{AllZip}
-use Rattle.std.specs.Str.{bytes_eq}
-use Rattle.std.proofs.lemmas.Bool.{cases_Bool, false≢true}
-use Rattle.std.proofs.lemmas.Bool.Decides.{Decides-eqb}
-use Rattle.std.proofs.lemmas.List.{drop_more, take-append-drop}
-use Rattle.std.proofs.lemmas.List.Elements.{All-cons, All-contains, All-get_or, All-head, All-nil, All-tail, All-take, Contains-get_or, filter_passes}
-use Rattle.std.proofs.lemmas.Option.{get_or_from_slice_get, slice_get_within}
-use Rattle.vkb_formula.specs.Pools.{pool_values}
+use Rattle.std.proofs.lemmas.Bool.{and_parts, false≢true}
+use Rattle.std.proofs.lemmas.List.{drop_more, length-map, length-replicate, map-append, take-append-drop}
+use Rattle.std.proofs.lemmas.List.Elements.{All-contains, All-cons, All-get_or, All-head, All-nil, All-tail, All-take}
+use Rattle.std.proofs.lemmas.Option.{get_or_from_slice_get, same_Some, slice_get_within}
+use Rattle.vkb_formula.specs.Names.{AreDifferent}
 use Rattle.vkb_formula.specs.declared.pool.NodeId.{NodeId}
 use Rattle.vkb_formula.specs.declared.pool.PoolNode.{PoolNode}
 use Rattle.doc_tree.specs.Flat.{FlatLine}
 use Rattle.reg_registry.specs.Rows.{Rows}
-use Rattle.doc_build.specs.Breaks.{Breaks, IsSound}
-use Rattle.doc_build.specs.Choices.{Choice, names_set, pageless_setting}
-use Rattle.doc_build.specs.Ids.{id_at}
-use Rattle.doc_build.specs.Laws.{is_kept_at}
-use Rattle.doc_build.specs.Pieces.{Anchor, Link, all_links, all_pieces, anchor_id, anchors_of, count_of, link_id, links_of, pieces_of}
-use Rattle.lift_check.specs.Lines.{AreLineNodes, is_line_on}
-use Rattle.lift_check.specs.Permits.{SaysPermits}
-use Rattle.lift_check.specs.Search.{BreaksFirst, IsFound, IsVerdictBy, NeverBreaks, anchors_on, is_broken}
-use Rattle.lift_check.specs.Survey.{IsSurvey}
-use Rattle.lift_check.specs.Verdict.{IsVerdict}
+use Rattle.reg_permit.specs.Size.{SaysPermitted}
+use Rattle.doc_build.specs.Breaks.{IsSound}
+use Rattle.doc_build.specs.Built.{set_names}
+use Rattle.doc_build.specs.Choices.{Choice, Setting}
+use Rattle.doc_build.specs.Pieces.{Link, all_links, count_of}
+use Rattle.doc_build.specs.Settings.{registry_setting}
+use Rattle.doc_build.specs.Sites.{LinksStandWithTheirLines, MarksAtSomeChoice, MarksFollowTheChoice, sites}
+use Rattle.lift_nodes.specs.Nodes.{is_true}
+use Rattle.lift_survey.specs.declared.Case.{Case}
+use Rattle.lift_survey.specs.declared.LiftedMark.{LiftedMark}
+use Rattle.lift_survey.specs.Survey.{AreHeld, AreLifted, IsLifted, Sighted, sighted_links}
+use Rattle.lift_ask.specs.declared.breaking.Broken.{Broken}
+use Rattle.lift_ask.specs.Breaking.{IsFirstBroken as IsFirstWrong, IsFound, NeverBreak, anchors_with, is_broken}
 use Rattle.lift_check.specs.declared.Verdict.{Verdict}
-use Rattle.lift_check.specs.declared.Verdict.TheVariants.{Yes, No}
-use Rattle.lift_check.specs.declared.search.Broken.{Broken}
-use Rattle.lift_check.specs.declared.survey.AnchorSite.{AnchorSite}
-use Rattle.lift_check.specs.declared.survey.LinkSite.{LinkSite}
-use Rattle.lift_check.proofs.SitesLemmas.{Contains-filter, IsSiteOf, count_by-filter, count_by-same, count_on, link_sites}
+use Rattle.lift_check.specs.declared.Verdict.TheVariants.{No, Yes}
+use Rattle.lift_check.specs.Judging.{IsAsked, IsVerdictBy}
+use Rattle.lift_check.specs.Verdict.{IsVerdict}
+use Rattle.lift_check.proofs.SightedLemmas.{IsLinkOf, link_of, links-are, links-made}
+use Rattle.lift_check.proofs.TellingLemmas.{breaks-from, broken-from, counted, id-there}
 use Rattle.lift_check.proofs.ZipLemmas.{same_length, zip_at, zip_take}
 
-and_true : (a b : Bool) → (a && b) ≡ true → (a ≡ true) × (b ≡ true)
-and_true true b both = (refl, both)
-and_true false b both = absurd (false≢true both)
+-- a list with a place has an element
+first-of : {X : Type 0} (xs : List X) (place : ℕ) → place < length xs → X
+first-of [] place within = absurd (omega (arith, within))
+first-of (x ∷ xs) place within = x
 
-some_same : {X : Type 0} (x y : X) → Some x ≡ Some y → x ≡ y
-some_same x y same = cc
+-- what was found is one of the links and one of its ids
+pub found-within : (nodes : List PoolNode) (rule : NodeId) (vars : ℕ) (anchors links : List LiftedMark) (broken : Option Broken) → IsFound nodes rule vars anchors links broken → IfSome broken (λ b. b.link < length links)
+found-within nodes rule vars anchors links None found = tt
+found-within nodes rule vars anchors links (Some broken) found = slice_get_within links broken.link found.link found.here
 
--- a link that was found is among the links
-pub found_within : (pool : List PoolNode) (permit : NodeId) (nodes : List NodeId) (options : ℕ) (anchors : List AnchorSite) (links : List LinkSite) (broken : Option Broken) → IsFound pool permit nodes options anchors links broken
-    → IfSome broken (λ b. b.link.0 < length links)
-found_within pool permit nodes options anchors links None found = tt
-found_within pool permit nodes options anchors links (Some broken) found = slice_get_within links broken.link.0 found.link found.here
+pub found-numbered : (nodes : List PoolNode) (rule : NodeId) (vars ids : ℕ) (anchors links : List LiftedMark) (broken : Option Broken) → All (AreHeld (length nodes) ids) links → IsFound nodes rule vars anchors links broken
+    → IfSome broken (λ b. b.id.0 < ids)
+found-numbered nodes rule vars ids anchors links None held found = tt
+found-numbered nodes rule vars ids anchors links (Some broken) held found =
+    let own : AreHeld (length nodes) ids found.link =
+    subst (AreHeld (length nodes) ids) (get_or_from_slice_get links broken.link found.link found.link found.here)
+    (All-get_or (AreHeld (length nodes) ids) links broken.link found.link (slice_get_within links broken.link found.link found.here) held) in
+    subst (λ (id : ℕ). id < ids) (ap (λ id. id.0) found.id_is) (All-contains (λ (c : Case). c.id.0 < ids) found.link.cases found.case own.id found.is_case)
 
--- what the laws of the built text say of a document
-pub record AreLaws (always : List (List ℕ)) (r : Rows) (lines : List FlatLine) : Type 0 where
-  pub anchors : (choice : Choice) → anchors_of (pieces_of (pageless_setting always r) lines choice)
-      ≡ filter (λ anchor. is_kept_at (names_set (pageless_setting always r) choice) lines anchor.line) (anchors_of (all_pieces (pageless_setting always r) lines))
-  pub links : (choice : Choice) → links_of (pieces_of (pageless_setting always r) lines choice)
-      ≡ filter (λ link. is_kept_at (names_set (pageless_setting always r) choice) lines link.place.line) (all_links (pageless_setting always r) lines)
-  pub anchors_within : All (λ anchor. anchor.line < length lines) (anchors_of (all_pieces (pageless_setting always r) lines))
-  pub links_within : All (λ link. link.place.line < length lines) (all_links (pageless_setting always r) lines)
-  pub written : (set : List (List ℕ)) (place : ℕ) (id : List ℕ) → id_at lines set place id ≡ id
+-- ---- the verdict
 
-module _ (always : List (List ℕ)) (r : Rows) (lines : List FlatLine) (pool : List PoolNode) (permit : NodeId) (nodes : List NodeId) (ids : List (List ℕ)) (anchors : List AnchorSite) (links : List LinkSite)
-    (laws : AreLaws always r lines) (are : AreLineNodes (pageless_setting always r) lines pool nodes) (says : SaysPermits r pool permit) (survey : IsSurvey lines ids anchors links) where
+-- what the laws say of built texts
+pub record AreLaws : Type 0 where
+  pub at_some : MarksAtSomeChoice
+  pub follow : MarksFollowTheChoice
+  pub stand : LinksStandWithTheirLines
+
+-- the nodes of the marks tell what the built texts have, and one which choices are permitted
+pub record IsSurveyed (always : List (List ℕ)) (r : Rows) (lines : List FlatLine) (closure : Choice → List Bool) (nodes : List PoolNode) (permit : NodeId) (ids : List (List ℕ)) (anchors links : List LiftedMark) : Type 0 where
+  pub different : AreDifferent ids
+  pub anchors_held : All (AreHeld (length nodes) (length ids)) anchors
+  pub links_held : All (AreHeld (length nodes) (length ids)) links
+  pub lifted : (choice : Choice) → length choice ≡ length r.options → AreLifted (is_true nodes choice) (set_names always r choice) (closure choice) r lines ids anchors links
+  pub permitted : (choice : Choice) → length choice ≡ length r.options → SaysPermitted r nodes permit choice
+
+module _ (laws : AreLaws) (always : List (List ℕ)) (r : Rows) (lines : List FlatLine) (closure : Choice → List Bool) (nodes : List PoolNode) (permit : NodeId) (ids : List (List ℕ)) (anchors links : List LiftedMark)
+    (surveyed : IsSurveyed always r lines closure nodes permit ids anchors links) where
+  abbrev over : Setting
+  over = registry_setting always r closure
+
   abbrev options : ℕ
   options = length r.options
 
+  abbrev seen : List Sighted
+  seen = sighted_links r lines
+
+  abbrev told : Choice → NodeId → Bool
+  told choice = is_true nodes choice
+
+  abbrev LiftedAt : Choice → Sighted → LiftedMark → Type 0
+  LiftedAt choice s m = IsLifted (is_true nodes choice) (set_names always r choice) (closure choice) lines ids s m
+
   -- the links of the document
-  abbrev all : List Link
-  all = all_links (pageless_setting always r) lines
+  links-seen : all_links over lines ≡ map link_of seen
+  links-seen = laws.at_some.links always r closure lines ∙ links-made (sites r lines)
 
-  -- the text that is built for a choice
-  abbrev built_links : Choice → List Link
-  built_links choice = links_of (pieces_of (pageless_setting always r) lines choice)
+  -- each is lifted
+  zipped : (choice : Choice) → length choice ≡ options → AllZip (LiftedAt choice) seen links
+  zipped choice fits = (surveyed.lifted choice fits).links_are
 
-  -- whether a choice keeps a line
-  abbrev kept : Choice → ℕ → Bool
-  kept choice = is_kept_at (names_set (pageless_setting always r) choice) lines
+  as-many : length seen ≡ length links
+  as-many =
+      let nothing : Choice = replicate options false in
+      same_length (LiftedAt nothing) seen links (zipped nothing (length-replicate options false))
 
-  -- the count of an id in the text that is built for a choice
-  abbrev count_at : Choice → List ℕ → ℕ
-  count_at choice id = count_of (pageless_setting always r) lines choice id
+  -- a link that no set breaks is sound
+  sound-one : (s : Sighted) (m : LiftedMark) → ((choice : Choice) → length choice ≡ options → LiftedAt choice s m) → AreHeld (length nodes) (length ids) m → IsLinkOf (sites r lines) s
+      → ((choice : Choice) → length choice ≡ options → is_true nodes choice permit ≡ true → is_broken (told choice) anchors m ≡ false) → IsSound over lines (link_of s)
+  sound-one s m lifted held there never = λ choice permits breaks.
+      let broken = broken-from laws.follow laws.stand always r lines closure ids surveyed.different (length nodes) anchors links surveyed.anchors_held choice (told choice) (surveyed.lifted choice permits.0)
+      s m (lifted choice permits.0) held there breaks in
+      false≢true (sym (never choice permits.0 ((surveyed.permitted choice permits.0).all permits.1)) ∙ broken)
 
-  abbrev DoesBreak : Choice → Link → Type 0
-  DoesBreak choice link = Breaks (pageless_setting always r) lines choice link
+  -- and so are links of which each is one
+  sound-all : (some : List Sighted) (marks : List LiftedMark) → ((choice : Choice) → length choice ≡ options → AllZip (LiftedAt choice) some marks) → All (AreHeld (length nodes) (length ids)) marks
+      → All (IsLinkOf (sites r lines)) some → NeverBreak nodes permit options anchors marks → All (IsSound over lines) (map link_of some)
+  sound-all [] marks zip held there never = All-nil (IsSound over lines)
+  sound-all (s ∷ some) [] zip held there never = λ k d within choice permits. absurd (zip choice permits.0)
+  sound-all (s ∷ some) (m ∷ marks) zip held there never =
+      All-cons (IsSound over lines) (link_of s) (map link_of some)
+      (sound-one s m (λ choice fits. (zip choice fits).0) (All-head (AreHeld (length nodes) (length ids)) m marks held) (All-head (IsLinkOf (sites r lines)) s some there)
+      (λ choice fits on. All-head (λ (link : LiftedMark). is_broken (told choice) anchors link ≡ false) m marks (never choice fits on)))
+      (sound-all some marks (λ choice fits. (zip choice fits).1) (All-tail (AreHeld (length nodes) (length ids)) m marks held) (All-tail (IsLinkOf (sites r lines)) s some there)
+      (λ choice fits on. All-tail (λ (link : LiftedMark). is_broken (told choice) anchors link ≡ false) m marks (never choice fits on)))
 
-  abbrev IsSoundLink : Link → Type 0
-  IsSoundLink link = IsSound (pageless_setting always r) lines link
+  yes-is : NeverBreak nodes permit options anchors links → IsVerdict over lines (Yes (length links))
+  yes-is never = (
+    sym (ap length links-seen ∙ (length-map seen link_of ∙ as-many)),
+    subst (λ (ls : List Link). All (IsSound over lines) ls) (sym links-seen) (sound-all seen links zipped surveyed.links_held (links-are r lines) never),
+  )
 
-  -- a link's line is on where it is kept
-  on_where_kept : (choice : Choice) → length choice ≡ options → (site : LinkSite) (link : Link) → IsSiteOf ids site link → link.place.line < length lines
-      → is_line_on (pool_values choice pool) nodes site.place.line ≡ kept choice link.place.line
-  on_where_kept choice permitted site link is within = ap (λ place. is_line_on (pool_values choice pool) nodes place.line) is.place_is ∙ are.kept choice permitted link.place.line within
+  -- the mark and the sighted link at a place
+  module _ (at : ℕ) (m : LiftedMark) (here : slice_get links at ≡ Some m) (some : Sighted) where
+    abbrev sight : Sighted
+    sight = get_or seen at some
 
-  -- what is counted in the text that is built is counted among all anchors
-  count_all : (choice : Choice) (id : List ℕ) → count_at choice id ≡ count_by (λ a. kept choice a.line && bytes_eq id a.id) (anchors_of (all_pieces (pageless_setting always r) lines))
-  count_all choice id =
-      let test : Anchor → Bool = λ a. bytes_eq id (anchor_id (pageless_setting always r) lines choice a) in
-      let stays : Anchor → Bool = λ a. kept choice a.line in
-      let anchors_all = anchors_of (all_pieces (pageless_setting always r) lines) in
-      ap (count_by test) (laws.anchors choice)
-      ∙ count_by-filter test stays anchors_all
-      ∙ count_by-same (λ a. stays a && test a) (λ a. stays a && bytes_eq id a.id) (λ a. ap (λ (written : List ℕ). stays a && bytes_eq id written) (laws.written (names_set (pageless_setting always r) choice) a.line a.id)) anchors_all
+    inside : at < length links
+    inside = slice_get_within links at m here
 
-  -- the anchors of a link's id are counted in the text that is built
-  counts : (choice : Choice) → length choice ≡ options → (site : LinkSite) (link : Link) → IsSiteOf ids site link
-      → anchors_on (pool_values choice pool) nodes anchors site.id.0 ≡ count_at choice link.id
-  counts choice permitted site link is =
-      count_on lines ids anchors links survey nodes (pool_values choice pool) (kept choice) (length lines) site.id.0 link.id laws.anchors_within is.id_is (are.kept choice permitted)
-      ∙ sym (count_all choice link.id)
+    inside-seen : at < length seen
+    inside-seen = omega (arith, inside, as-many)
 
-  -- the id of a link is as it is written
-  id_written : (choice : Choice) (link : Link) → link_id (pageless_setting always r) lines choice link ≡ link.id
-  id_written choice link = laws.written (names_set (pageless_setting always r) choice) link.place.line link.id
+    lifted-at : (choice : Choice) → length choice ≡ options → LiftedAt choice sight m
+    lifted-at choice fits = subst (λ (x : LiftedMark). LiftedAt choice sight x) (get_or_from_slice_get links at m m here) (zip_at (LiftedAt choice) seen links at some m (zipped choice fits) inside-seen)
 
-  sound_site : (choice : Choice) → length choice ≡ options → (site : LinkSite) (link : Link) → IsSiteOf ids site link → link.place.line < length lines
-      → is_broken (pool_values choice pool) nodes anchors site ≡ false → ¬ DoesBreak choice link
-  sound_site choice permitted site link is within holds broken =
-      let stays : Link → Bool = λ l. kept choice l.place.line in
-      let among : Contains (filter stays all) link = subst (λ (ls : List Link). Contains ls link) (laws.links choice) broken.stands in
-      let on : kept choice link.place.line ≡ true = All-contains (λ (l : Link). kept choice l.place.line ≡ true) (filter stays all) link (filter_passes stays all) among in
-      let stands : is_line_on (pool_values choice pool) nodes site.place.line ≡ true = on_where_kept choice permitted site link is within ∙ on in
-      let number = anchors_on (pool_values choice pool) nodes anchors site.id.0 in
-      elim (cases_Bool (eqb number 1)) [
-        | inl one ↦ broken.count (ap (count_at choice) (id_written choice link) ∙ sym (counts choice permitted site link is) ∙ (Decides-eqb number 1).0 one)
-        | inr other ↦ false≢true (sym holds ∙ ap (λ b. b && not (eqb number 1)) stands ∙ ap not other)
-      ]
+    held-at : AreHeld (length nodes) (length ids) m
+    held-at = subst (AreHeld (length nodes) (length ids)) (get_or_from_slice_get links at m m here) (All-get_or (AreHeld (length nodes) (length ids)) links at m inside surveyed.links_held)
 
-  broken_site : (choice : Choice) → length choice ≡ options → (site : LinkSite) (link : Link) → IsSiteOf ids site link → Contains all link → link.place.line < length lines
-      → is_broken (pool_values choice pool) nodes anchors site ≡ true → DoesBreak choice link
-  broken_site choice permitted site link is among within broken =
-      let number = anchors_on (pool_values choice pool) nodes anchors site.id.0 in
-      let stays : Link → Bool = λ l. kept choice l.place.line in
-      let parts = and_true (is_line_on (pool_values choice pool) nodes site.place.line) (not (eqb number 1)) broken in
-      let on : kept choice link.place.line ≡ true = sym (on_where_kept choice permitted site link is within) ∙ parts.0 in
+    link-at : IsLinkOf (sites r lines) sight
+    link-at = All-get_or (IsLinkOf (sites r lines)) seen at some inside-seen (links-are r lines)
+
+    split : all_links over lines ≡ map link_of (take at seen) ++ link_of sight ∷ map link_of (drop (at + 1) seen)
+    split =
+        links-seen
+        ∙ (ap (map link_of) (sym (take-append-drop at seen) ∙ ap (λ (rest : List Sighted). take at seen ++ rest) (drop_more seen at some inside-seen))
+        ∙ map-append link_of (take at seen) (sight ∷ drop (at + 1) seen))
+
+  no-is : (broken : Broken) (m : LiftedMark) (id : List ℕ) → IsFirstWrong nodes permit options anchors links broken → slice_get links broken.link ≡ Some m → slice_get ids broken.id.0 ≡ Some id
+      → IsVerdict over lines (No m.place id broken.set broken.count)
+  no-is broken m id first here named =
+      let at = broken.link in
+      let choice : Choice = broken.set in
+      let some = first-of seen at (omega (arith, slice_get_within links at m here, as-many)) in
+      let s = get_or seen at some in
+      let lifted = lifted-at at m here some choice first.each in
+      let held = held-at at m here some in
+      let same : first.link ≡ m = same_Some first.link m (sym first.here ∙ here) in
+      let among : Contains m.cases first.case = subst (λ (x : LiftedMark). Contains x.cases first.case) same first.is_case in
+      let number : first.case.id.0 ≡ broken.id.0 = ap (λ id. id.0) first.id_is in
+      let on = (and_parts (told choice first.case.node) (not (eqb (anchors_with (told choice) anchors first.case.id.0) 1)) first.wrong).0 in
+      let name : get_or ids broken.id.0 [] ≡ id = get_or_from_slice_get ids broken.id.0 id [] named in
+      let id_is = id-there laws.follow laws.stand always r lines closure ids surveyed.different (length nodes) anchors links surveyed.anchors_held choice (told choice) (surveyed.lifted choice first.each) s m first.case lifted among on in
       record {
-        stands = subst (λ (ls : List Link). Contains ls link) (sym (laws.links choice)) (Contains-filter stays all link among on);
-        count = λ one. false≢true (sym (ap not (eq-eqb number 1 (counts choice permitted site link is ∙ sym (ap (count_at choice) (id_written choice link)) ∙ one))) ∙ parts.1);
+        before = map link_of (take at seen);
+        link = link_of s;
+        after = map link_of (drop (at + 1) seen);
+        here = split at m here some;
+        first = sound-all (take at seen) (take at links) (λ c fits. zip_take (LiftedAt c) at seen links (zipped c fits)) (All-take (AreHeld (length nodes) (length ids)) at links surveyed.links_held)
+            (All-take (IsLinkOf (sites r lines)) at seen (links-are r lines)) first.none_before;
+        permitted = (first.each, (surveyed.permitted choice first.each).only first.rule_holds);
+        broken = breaks-from laws.follow laws.stand always r lines closure ids surveyed.different (length nodes) anchors links surveyed.anchors_held choice (told choice) (surveyed.lifted choice first.each)
+            s m first.case lifted held (link-at at m here some) among first.wrong;
+        place_is = lifted.place;
+        id_is = sym name ∙ (ap (λ (n : ℕ). get_or ids n []) (sym number) ∙ id_is.1);
+        counted = first.counted
+            ∙ (sym (counted laws.follow laws.stand always r lines closure ids surveyed.different (length nodes) anchors links surveyed.anchors_held choice (told choice) (surveyed.lifted choice first.each)
+            broken.id.0 (slice_get_within ids broken.id.0 id named)) ∙ ap (count_of over lines choice) name);
       }
 
-  -- links that no choice breaks among the sites are sound
-  sound_links : (sites : List LinkSite) (some : List Link) → AllZip (IsSiteOf ids) sites some → All (λ l. l.place.line < length lines) some → NeverBreaks pool permit nodes options anchors sites
-      → All IsSoundLink some
-  sound_links [] [] zipped within never = All-nil IsSoundLink
-  sound_links [] (link ∷ some) zipped within never = absurd zipped
-  sound_links (site ∷ sites) [] zipped within never = absurd zipped
-  sound_links (site ∷ sites) (link ∷ some) zipped within never =
-      All-cons IsSoundLink link some
-      (λ choice permitted. sound_site choice permitted.0 site link zipped.0 (All-head (λ (l : Link). l.place.line < length lines) link some within)
-      (All-head (λ s. is_broken (pool_values choice pool) nodes anchors s ≡ false) site sites (never choice permitted.0 ((says choice permitted.0).all permitted.1))))
-      (sound_links sites some zipped.1 (All-tail (λ (l : Link). l.place.line < length lines) link some within) (λ choice fits on. All-tail (λ s. is_broken (pool_values choice pool) nodes anchors s ≡ false) site sites (never choice fits on)))
-
-  sites_are : AllZip (IsSiteOf ids) links all
-  sites_are = link_sites lines ids anchors links survey
-
-  pub yes_is : NeverBreaks pool permit nodes options anchors links → IsVerdict (pageless_setting always r) lines (Yes (length links))
-  yes_is never = (same_length (IsSiteOf ids) links all sites_are, sound_links links all sites_are laws.links_within never)
-
-  pub no_is : (at : ℕ) (choice : Choice) (count : ℕ) (site : LinkSite) (id : List ℕ) → BreaksFirst pool permit nodes options anchors links at choice count → slice_get links at ≡ Some site → slice_get ids site.id.0 ≡ Some id
-      → IsVerdict (pageless_setting always r) lines (No site.place id choice count)
-  no_is at choice count site id first there named =
-      let none : Link = record { place = site.place; id = id } in
-      let link = get_or all at none in
-      let inside : at < length links = slice_get_within links at site there in
-      let same = same_length (IsSiteOf ids) links all sites_are in
-      let within : at < length all = omega (arith, same, inside) in
-      let is : IsSiteOf ids site link = subst (λ (s : LinkSite). IsSiteOf ids s link) (get_or_from_slice_get links at site site there) (zip_at (IsSiteOf ids) links all at site none sites_are inside) in
-      let found : first.link ≡ site = some_same first.link site (sym first.here ∙ there) in
-      let line = All-get_or (λ (l : Link). l.place.line < length lines) all at none within laws.links_within in
-      let named_so : id ≡ link.id = some_same id link.id (sym named ∙ is.id_is) in
-      record {
-        before = take at all;
-        link = link;
-        after = drop (at + 1) all;
-        here = sym (take-append-drop at all) ∙ ap (λ (rest : List Link). take at all ++ rest) (drop_more all at none within);
-        first = sound_links (take at links) (take at all) (zip_take (IsSiteOf ids) at links all sites_are) (All-take (λ (l : Link). l.place.line < length lines) at all laws.links_within) first.first;
-        permitted = (first.fits, (says choice first.fits).only first.permitted);
-        broken = broken_site choice first.fits site link is (Contains-get_or all at none within) line (subst (λ (s : LinkSite). is_broken (pool_values choice pool) nodes anchors s ≡ true) found first.broken);
-        place_is = is.place_is;
-        id_is = named_so ∙ sym (id_written choice link);
-        counted = first.counted ∙ ap (λ (s : LinkSite). anchors_on (pool_values choice pool) nodes anchors s.id.0) found ∙ counts choice first.fits site link is ∙ ap (count_at choice) (sym named_so);
-      }
-
-  -- the verdict by what the search found
-  pub verdict_is : (broken : Option Broken) (verdict : Verdict) → IsVerdictBy ids links broken verdict → IsFound pool permit nodes options anchors links broken → IsVerdict (pageless_setting always r) lines verdict
-  verdict_is None verdict by found = rw by (yes_is found)
-  verdict_is (Some broken) verdict (site, id, there, named, by) found = rw by (no_is broken.link.0 broken.choice.items broken.count site id found there named)
+  -- the verdict by what is asked
+  pub verdict-is : (verdict : Verdict) → IsAsked nodes permit options ids anchors links verdict → IsVerdict over lines verdict
+  verdict-is verdict (broken, found, by) = verdict-by broken verdict found by
+    where
+      verdict-by : (o : Option Broken) (v : Verdict) → IsFound nodes permit options anchors links o → IsVerdictBy ids links o v → IsVerdict over lines v
+      verdict-by None v found by = rw by (yes-is found)
+      verdict-by (Some broken) v found (m, id, here, named, by) = rw by (no-is broken m id found here named)

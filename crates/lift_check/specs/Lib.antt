@@ -1,9 +1,8 @@
-pub mod Choices
+pub mod Judging
 pub mod Keeping
 pub mod Lines
 pub mod Nodes
 pub mod Options
 pub mod Permits
-pub mod Search
-pub mod Survey
+pub mod Prepared
 pub mod Verdict

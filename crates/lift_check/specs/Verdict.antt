@@ -1,13 +1,12 @@
 -- The verdict on all links of a document, over all permitted choices.
 use Rattle.std.specs.Prelude.{◌≡◌, ℕ, Bool, List, ◌∷◌, ◌++◌, length, All}
 use Rattle.doc_tree.specs.Flat.{FlatLine}
-use Rattle.reg_registry.specs.Laws.{AreWithin}
 use Rattle.reg_registry.specs.Rows.{Rows}
 use Rattle.doc_build.specs.declared.Place.{Place}
 use Rattle.doc_build.specs.Breaks.{Breaks, IsSound}
-use Rattle.doc_build.specs.Choices.{Choice, Setting, pageless_setting}
+use Rattle.doc_build.specs.Choices.{Choice, Setting}
 use Rattle.doc_build.specs.Pieces.{Link, all_links, count_of, link_id}
-use Rattle.doc_build.specs.Settings.{AreClosures, IncludeNoPage, registry_setting}
+use Rattle.doc_build.specs.Settings.{AreClosures, registry_setting}
 use Rattle.lift_check.specs.declared.Verdict.{Verdict}
 use Rattle.lift_check.specs.declared.Verdict.TheVariants.{Yes, No}
 
@@ -32,10 +31,3 @@ IsVerdict setting lines (No place id choice count) = IsFirstBroken setting lines
 -- the verdict on a document over a registry, where some names are always set: its generated pages are those of the closure of each choice
 abbrev pub IsJudged : List (List ℕ) → Rows → List FlatLine → Verdict → Type 0
 IsJudged always r lines verdict = (closure : Choice → List Bool) × AreClosures r closure × IsVerdict (registry_setting always r closure) lines verdict
-
--- Where no line includes the page of a declared name, that is the verdict over a registry whose pages give nothing. Each name of the registry has a
--- row, and what the rows name is there.
-abbrev pub JudgedWithoutPages : Type 0
-JudgedWithoutPages =
-    (always : List (List ℕ)) (r : Rows) (lines : List FlatLine) (verdict : Verdict) → length r.rows ≡ length r.names → AreWithin r.rows
-    → IncludeNoPage r lines → IsVerdict (pageless_setting always r) lines verdict → IsJudged always r lines verdict

@@ -11,11 +11,13 @@ ghost use Rattle.doc_build.specs.Keeping.{met_from};
 ghost use Rattle.lift_check.specs.Keeping.{KeepsLines, is_on, node_in, node_of};
 ghost use Rattle.lift_check.specs.Nodes.{AreNodes, HoldsOptions, IsNode, IsPut, has_name, meets, node_for};
 ghost use Rattle.lift_check.specs.Lines.{AreOptionsOf};
+ghost use Rattle.lift_nodes.specs.Cases.{AreConstant};
 
 use crate::Memory;
 use crate::options::{Options, Setting};
 use doc_build::{lines_are_kept_by_number, options_are_set};
 use doc_tree::{Cond, CondId, DocLine, Document};
+use lift_nodes::Constants;
 use std::alloc::Global;
 use vkb_bytes::Listed;
 use vkb_formula::{NameId, NodeId, Pool, PoolNode, nodes_keep_their_meaning};
@@ -26,18 +28,24 @@ const ALWAYS: NodeId = NodeId(0);
 /// The second node, which is true at none.
 const NEVER: NodeId = NodeId(1);
 
+/// These two.
+pub(crate) const CONSTANTS: Constants = Constants {
+    always: ALWAYS,
+    never: NEVER,
+};
+
 /// For each condition of a document a formula over the options, which is true at the choices that meet the condition and
 /// all those round it.
 #[derive(Drop)]
-pub struct Conditions {
-    pub pool: Pool,
+pub(crate) struct Conditions {
+    pub(crate) pool: Pool,
     /// The node of each condition, in order.
-    pub nodes: Listed<NodeId>,
+    pub(crate) nodes: Listed<NodeId>,
 }
 
 impl Conditions {
     /// The node of a line of the document, which is true at the choices that keep the line. It takes no memory.
-    pub fn node_of(&self, line: &DocLine) -> NodeId
+    pub(crate) fn node_of(&self, line: &DocLine) -> NodeId
         ensures { result ≡ node_of self.now.nodes line.now }
     {
         node_in(self.nodes.as_slice(), line.own.or(line.within))
@@ -45,8 +53,13 @@ impl Conditions {
 }
 
 /// The formulas of the conditions of a document whose names are what the settings say. An `Err` is want of memory.
-pub fn read_conditions(alloc: Global, d: &Document, options: &Options) -> Result<Conditions, Memory>
+pub(crate) fn read_conditions(
+    alloc: Global,
+    d: &Document,
+    options: &Options,
+) -> Result<Conditions, Memory>
     ensures reach { IfOk result (λ c. pool_reach c.pool ≤ options.now.count) }
+    ensures constants { IfOk result (λ c. AreConstant c.pool (record { always = ALWAYS; never = NEVER })) }
     ensures lines { (text : List ℕ) (always : List (List ℕ)) (r : Rows) → IsLoaded text d.now → AreDifferent r.options
         → AreOptionsOf always r d.now options.now → IfOk result (λ c. KeepsLines (pageless_setting always r) text d.now c.pool c.nodes) }
 {

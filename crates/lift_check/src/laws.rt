@@ -4,11 +4,10 @@ ghost use Rattle.doc_tree.specs.Flat.{FlatLine};
 ghost use Rattle.reg_registry.specs.Rows.{Rows};
 ghost use Rattle.doc_build.specs.declared.Place.{Place};
 ghost use Rattle.doc_build.specs.Choices.{Choice};
-ghost use Rattle.lift_check.specs.Verdict.{IsJudged, JudgedWithoutPages};
+ghost use Rattle.lift_check.specs.Verdict.{IsJudged};
 ghost use Rattle.lift_check.specs.declared.Verdict.TheVariants.{No, Yes};
 
-use doc_build::pages_are_of_names;
-use reg_closure::{closures_are_there, one_closure};
+use reg_closure::one_closure;
 
 /// Over a registry, a document has one verdict, but for the choice that a `No` names, the id there and its count: all say
 /// yes with one number of links, or all say no and name one place.
@@ -21,12 +20,4 @@ pub fn one_verdict()
         → IsJudged always r lines (No place id choice count) → IsJudged always r lines (No other name chosen counted) → place ≡ other }
 {
     one_closure();
-}
-
-/// Where no line of a document includes the page of a declared name, its verdict is that over a registry whose pages give nothing.
-pub fn judged_without_pages()
-    ensures { JudgedWithoutPages }
-{
-    closures_are_there();
-    pages_are_of_names();
 }

@@ -20,11 +20,11 @@ use vkb_formula::{NameId, NameTable, Names};
 
 /// The number of an option, from 0.
 #[derive(Clone, Copy, Debug, PartialEq, Eq)]
-pub struct OptionId(pub u32);
+pub(crate) struct OptionId(pub(crate) u32);
 
 /// What a name of a condition is.
 #[derive(Clone, Copy, Debug, PartialEq, Eq)]
-pub enum Setting {
+pub(crate) enum Setting {
     /// It is always set.
     Fixed,
     /// It is set where this option is chosen.
@@ -35,7 +35,7 @@ pub enum Setting {
 
 /// What each name of a document is. The names of the options are those of the registry.
 #[derive(Drop)]
-pub struct Options {
+pub(crate) struct Options {
     count: u32,
     settings: Vec<Setting>,
 }
@@ -53,14 +53,14 @@ impl Model for Options {
 
 impl Options {
     /// The number of options. It takes no memory.
-    pub fn len(&self) -> u32
+    pub(crate) fn len(&self) -> u32
         ensures { result ≡ self.now.count }
     {
         self.count
     }
 
     /// What a name of the document is; a name that the document hasn't is never set. It takes no memory.
-    pub fn setting_of(&self, name: NameId) -> Setting
+    pub(crate) fn setting_of(&self, name: NameId) -> Setting
         ensures setting { result ≡ setting_of self.now name }
         ensures below { IsBelow self.now.count result }
     {
@@ -73,7 +73,7 @@ impl Options {
 
 /// What the names of a document are over a registry, where some names are always set: each other name is an option where the registry
 /// has one of that name. An `Err` is want of memory.
-pub fn read_options(
+pub(crate) fn read_options(
     alloc: Global,
     d: &Document,
     r: &Registry,
@@ -160,4 +160,4 @@ fn names_but(alloc: Global, names: &NameTable, fixed: &Names) -> Result<Vec<Byte
 }
 
 #[cfg(test)]
-pub mod tests;
+pub(crate) mod tests;

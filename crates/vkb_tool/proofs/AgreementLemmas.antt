@@ -1,8 +1,6 @@
 -- What is asked of the files has one first fault, and two outcomes of the same words and files are alike.
-use Rattle.std.proofs.Common.{inl, inr, ◌≡◌, ◌≢◌, ◌⊎◌, ℕ, Bool, List, [], Option, Some, None, slice_get, false, refl, sym, ap, ◌∙◌, subst}
-use Rattle.std.proofs.lemmas.Bool.{cases_order, false≢true}
-use Rattle.std.proofs.lemmas.List.Elements.{All-get_or}
-use Rattle.std.proofs.lemmas.Option.{get_or_from_slice_get, none-some, same_Some, slice_get_within}
+use Rattle.std.proofs.Common.{inl, inr, ◌≡◌, ◌≢◌, ◌⊎◌, ℕ, Bool, List, [], Option, Some, None, refl, sym, ap, ◌∙◌, subst}
+use Rattle.std.proofs.lemmas.Option.{none-some, same_Some}
 use Rattle.vkb_outside.specs.Shelf.{Files}
 use Rattle.doc_tree.specs.Fault.{Fault as DocumentFault}
 use Rattle.doc_tree.specs.Flat.{FlatLine}
@@ -27,15 +25,15 @@ use Rattle.vkb_tool.specs.declared.status.Status.TheVariants.{Broken, Done, Refu
 use Rattle.vkb_tool.specs.declared.words.Request.{Request}
 use Rattle.vkb_tool.specs.declared.words.Request.TheVariants.{Build, Check, Header, Tag}
 use Rattle.vkb_tool.specs.declared.registry.RegistryFault.{RegistryFault}
-use Rattle.vkb_tool.specs.Fault.{Fault, BadTag, InDocument, InRegistry, NoNumber, NotBuilt, NotPermitted, TooManyNames, UnknownOption}
-use Rattle.vkb_tool.specs.Outcome.{AreBuilt, Effect, HasNoFault, IsBuilt, IsDeclared, IsFaultIn, IsFirstFault, IsFirstUnbuilt, IsOffered, IsRegistryOf, IsSubject, NameOneCircle, NameOnePlace, Outcome, TellsPlace, built as texted, checked, declared as headed, determined, is_unbuilt, misplaced, most_text, puts_tags, refused, settled, status_of, tagged, writes_alone}
+use Rattle.vkb_tool.specs.Fault.{Fault, InDocument, InRegistry}
+use Rattle.vkb_tool.specs.Outcome.{Effect, HasNoFault, IsBuilt, IsDeclared, IsFirstFault, IsOffered, IsRegistryOf, IsSubject, NameOneCircle, NameOnePlace, Outcome, TellsPlace, built as texted, checked, declared as headed, determined, misplaced, most_text, puts_tags, refused, settled, status_of, tagged, writes_alone}
 use Rattle.vkb_tool.specs.Registry.{IsRegistryFault}
 use Rattle.vkb_tool.specs.Report.{fault_line, report_of, usage_line}
 use Rattle.vkb_tool.specs.Tags.{texts_of}
 use Rattle.vkb_tool.specs.Words.{Spells}
 use Rattle.vkb_tool.proofs.ChoiceLemmas.{same_fault_at}
 use Rattle.vkb_tool.proofs.HeaderLemmas.{one_header, same_header_fault}
-use Rattle.vkb_tool.proofs.OutcomeLemmas.{AtChoice, Kinds, in_registry, in_walk, inside, kind_of_build, kind_of_check, same_registry_of, sound_registry}
+use Rattle.vkb_tool.proofs.OutcomeLemmas.{AtChoice, Kinds, NoneInside, in_registry, in_walk, inside, kind_of_build, kind_of_check, same_registry_of, sound_registry}
 use Rattle.vkb_tool.proofs.RegistryLemmas.{alike_determined, one_registry_fault}
 use Rattle.vkb_tool.proofs.TagsLemmas.{OnePages, same_tags_fault}
 use Rattle.vkb_tool.proofs.WordsLemmas.{one_position, same_request}
@@ -45,45 +43,6 @@ abbrev pub OneWalk : Type 0
 OneWalk = (files : Files) (sources others : Sources) → AreSources files sources → AreSources files others → sources ≡ others
 
 -- ---- one first fault
-
--- lines have one first that isn't built
-same_unbuilt : (declared : List (List ℕ)) (lines : List FlatLine) (line other : FlatLine) → IsFirstUnbuilt declared lines line → IsFirstUnbuilt declared lines other → line ≡ other
-same_unbuilt declared lines line other is also =
-    elim (cases_order is.place also.place) [
-      | inl same ↦ same_Some line other (sym is.here ∙ ap (slice_get lines) same ∙ also.here)
-      | inr (inl early) ↦ absurd (false≢true (sym (also.first is.place line early is.here) ∙ is.unbuilt))
-      | inr (inr late) ↦ absurd (false≢true (sym (is.first also.place other late also.here) ∙ also.unbuilt))
-    ]
-
--- and where all are built there is none
-pub never_unbuilt : (declared : List (List ℕ)) (lines : List FlatLine) (line : FlatLine) → AreBuilt declared lines → ¬ IsFirstUnbuilt declared lines line
-never_unbuilt declared lines line built is =
-    let within = slice_get_within lines is.place line is.here in
-    let same = get_or_from_slice_get lines is.place line line is.here in
-    false≢true (sym (All-get_or (λ (l : FlatLine). is_unbuilt declared l.kind ≡ false) lines is.place line within built) ∙ ap (λ (l : FlatLine). is_unbuilt declared l.kind) same ∙ is.unbuilt)
-
--- lines have one first fault
-same_fault_in : (r : Rows) (lines : List FlatLine) (fault other : Fault) → IsFaultIn r lines fault → IsFaultIn r lines other → fault ≡ other
-same_fault_in r lines (InRegistry file api fault) other is also = absurd is
-same_fault_in r lines fault (InRegistry file api other) is also = absurd also
-same_fault_in r lines (InDocument fault) other is also = absurd is
-same_fault_in r lines fault (InDocument other) is also = absurd also
-same_fault_in r lines (UnknownOption word) other is also = absurd is
-same_fault_in r lines fault (UnknownOption word) is also = absurd also
-same_fault_in r lines (NotPermitted option) other is also = absurd is
-same_fault_in r lines fault (NotPermitted option) is also = absurd also
-same_fault_in r lines (BadTag file number) other is also = absurd is
-same_fault_in r lines fault (BadTag file number) is also = absurd also
-same_fault_in r lines (NoNumber needed left) other is also = absurd is
-same_fault_in r lines fault (NoNumber needed left) is also = absurd also
-same_fault_in r lines (NotBuilt file number) (NotBuilt name count) (line, first, file_is, number_is) (other, also, name_is, count_is) =
-    let same : line ≡ other = same_unbuilt r.names lines line other first also in
-    let files_are : file ≡ name = file_is ∙ ap (λ (l : FlatLine). l.file) same ∙ sym name_is in
-    let numbers_are : number ≡ count = number_is ∙ ap (λ (l : FlatLine). l.number) same ∙ sym count_is in
-    cc
-same_fault_in r lines (NotBuilt file number) (TooManyNames count) (line, first, file_is, number_is) (built, many) = absurd (never_unbuilt r.names lines line built first)
-same_fault_in r lines (TooManyNames count) (NotBuilt file number) (built, many) (line, first, file_is, number_is) = absurd (never_unbuilt r.names lines line built first)
-same_fault_in r lines (TooManyNames count) (TooManyNames other) (built, many) (also, more) = ap TooManyNames (many.counted ∙ sym more.counted)
 
 module _ (one_walk : OneWalk) (one_answer : OneAnswer) (one_rows : AnswersAreOne) where
   -- a walk has one list of lines
@@ -143,7 +102,7 @@ module _ (one_walk : OneWalk) (one_answer : OneAnswer) (one_rows : AnswersAreOne
 
   pub same_fault : (request : Request) (files : Files) (fault other : Fault) → IsFirstFault request files fault → IsFirstFault request files other → determined fault ≡ determined other
   same_fault (Check registry root api always) files fault other is also =
-      same_kinds IsFaultIn same_fault_in files registry root api always fault other (kind_of_check files registry root api always fault is) (kind_of_check files registry root api always other also)
+      same_kinds NoneInside (λ r lines fault other is also. absurd is) files registry root api always fault other (kind_of_check files registry root api always fault is) (kind_of_check files registry root api always other also)
   same_fault (Build registry root api names always) files fault other is also =
       same_kinds (AtChoice names) (λ r lines fault other. same_fault_at r names fault other) files registry root api always fault other
       (kind_of_build files registry root api names always fault is) (kind_of_build files registry root api names always other also)

@@ -14,7 +14,7 @@ use Rattle.vkb_tool.specs.declared.status.Status.TheVariants.{Refused}
 use Rattle.vkb_tool.specs.Answer.{effect_of}
 use Rattle.vkb_tool.specs.Check.{TellsFault}
 use Rattle.vkb_tool.specs.Declaring.{TellsAtChoice}
-use Rattle.vkb_tool.specs.Fault.{Fault, BadTag, InDocument, InRegistry, NoNumber, NotBuilt, NotPermitted, TooManyNames, UnknownOption}
+use Rattle.vkb_tool.specs.Fault.{Fault, BadTag, InDocument, InRegistry, NoNumber, NotPermitted, UnknownOption}
 use Rattle.vkb_tool.specs.Outcome.{Effect, IsFaultAt, writes_alone}
 use Rattle.vkb_tool.specs.Report.{fault_line}
 
@@ -33,10 +33,6 @@ same_fault_at r names (InRegistry file api fault) other is also = absurd is
 same_fault_at r names fault (InRegistry file api other) is also = absurd also
 same_fault_at r names (InDocument fault) other is also = absurd is
 same_fault_at r names fault (InDocument other) is also = absurd also
-same_fault_at r names (NotBuilt file number) other is also = absurd is
-same_fault_at r names fault (NotBuilt file number) is also = absurd also
-same_fault_at r names (TooManyNames count) other is also = absurd is
-same_fault_at r names fault (TooManyNames count) is also = absurd also
 same_fault_at r names (BadTag file number) other is also = absurd is
 same_fault_at r names fault (BadTag file number) is also = absurd also
 same_fault_at r names (NoNumber needed left) other is also = absurd is
@@ -52,8 +48,6 @@ same_fault_at r names (NotPermitted option) (NotPermitted other) (id, is, named)
 pub choice_sound : (r : Rows) (names : List (List ℕ)) (chosen : List Bool) → IsChoice r names chosen → (fault : Fault) → ¬ IsFaultAt r names fault
 choice_sound r names chosen choice (InRegistry file api fault) is = is
 choice_sound r names chosen choice (InDocument fault) is = is
-choice_sound r names chosen choice (NotBuilt file number) is = is
-choice_sound r names chosen choice (TooManyNames count) is = is
 choice_sound r names chosen choice (UnknownOption word) is = none-some word (sym choice.known ∙ is)
 choice_sound r names chosen choice (NotPermitted option) (id, un_kept, named) =
     let breaks = un_kept.first.here in

@@ -1,5 +1,5 @@
 -- Each document has a verdict.
-use Rattle.std.proofs.Common.{◌≡◌, ◌≢◌, ℕ, zero, suc, ◌⊎◌, true, false, List, [], ◌∷◌, ◌++◌, length, refl, ap, arith, inl, inr, All, Contains}
+use Rattle.std.proofs.Common.{◌≡◌, ◌≢◌, ℕ, zero, suc, ◌⊎◌, Bool, true, false, List, [], ◌∷◌, ◌++◌, length, refl, ap, arith, inl, inr, All, Contains}
 use Rattle.std.proofs.lemmas.Bool.{cases_eq}
 use Rattle.std.proofs.lemmas.List.Elements.{All-cons, All-nil}
 use Rattle.doc_tree.specs.Flat.{FlatLine}
@@ -7,11 +7,13 @@ use Rattle.doc_build.specs.declared.Place.{Place}
 use Rattle.doc_build.specs.Breaks.{Breaks, IsSound}
 use Rattle.reg_registry.specs.Laws.{AreWithin}
 use Rattle.reg_registry.specs.Rows.{Rows}
+use Rattle.reg_closure.specs.Existence.{ClosuresAreThere}
 use Rattle.reg_permit.specs.Laws.{PermittedOrNot}
 use Rattle.reg_permit.specs.Permitted.{IsPermitted}
-use Rattle.doc_build.specs.Choices.{Choice, pageless_setting}
+use Rattle.doc_build.specs.Choices.{Choice, Setting}
 use Rattle.doc_build.specs.Pieces.{Link, all_links, count_of, link_id, links_of, pieces_of}
-use Rattle.lift_check.specs.Verdict.{IsVerdict}
+use Rattle.doc_build.specs.Settings.{AreClosures, registry_setting}
+use Rattle.lift_check.specs.Verdict.{IsJudged, IsVerdict}
 use Rattle.lift_check.specs.declared.Verdict.{Verdict}
 use Rattle.lift_check.specs.declared.Verdict.TheVariants.{No, Yes}
 use Rattle.vkb_tool.proofs.EveryRequest.{same_or_not}
@@ -119,27 +121,32 @@ first_or_none A Good Bad decide (x ∷ all) =
       ]
     ]
 
-module _ (permitted_or_not : PermittedOrNot) (always : List (List ℕ)) (r : Rows) (lines : List FlatLine) (within : AreWithin r.rows) where
+module _ (setting : Setting) (lines : List FlatLine) where
   -- a choice breaks a link or not
-  breaks_or_not : (link : Link) (choice : Choice) → Breaks (pageless_setting always r) lines choice link ⊎ (¬ Breaks (pageless_setting always r) lines choice link)
+  breaks_or_not : (link : Link) (choice : Choice) → Breaks setting lines choice link ⊎ (¬ Breaks setting lines choice link)
   breaks_or_not link choice =
-      elim (among_or_not (links_of (pieces_of (pageless_setting always r) lines choice)) link) [
+      elim (among_or_not (links_of (pieces_of setting lines choice)) link) [
         | inr none ↦ inr (λ breaks. none breaks.stands)
-        | inl stands ↦ elim (cases_eq (count_of (pageless_setting always r) lines choice (link_id (pageless_setting always r) lines choice link)) 1) [
+        | inl stands ↦ elim (cases_eq (count_of setting lines choice (link_id setting lines choice link)) 1) [
           | inl one ↦ inr (λ breaks. breaks.count one)
           | inr other ↦ inl (record { stands = stands; count = other })
         ]
       ]
 
+module _ (permitted_or_not : PermittedOrNot) (always : List (List ℕ)) (r : Rows) (closure : Choice → List Bool) (lines : List FlatLine) (within : AreWithin r.rows) where
+  -- what is judged over
+  abbrev over : Setting
+  over = registry_setting always r closure
+
   -- a choice that the registry permits, where it has a value for each option, breaks a link
   abbrev BreaksAt : Link → Choice → Type 0
-  BreaksAt link choice = IsPermitted r choice × Breaks (pageless_setting always r) lines choice link
+  BreaksAt link choice = IsPermitted r choice × Breaks over lines choice link
 
   breaks_there_or_not : (link : Link) (choice : Choice) → BreaksAt link choice ⊎ (¬ BreaksAt link choice)
   breaks_there_or_not link choice =
       elim (permitted_or_not r choice within) [
         | inr refused ↦ inr (λ breaks. refused breaks.0)
-        | inl permitted ↦ elim (breaks_or_not link choice) [
+        | inl permitted ↦ elim (breaks_or_not over lines link choice) [
           | inl breaks ↦ inl (permitted, breaks)
           | inr holds ↦ inr (λ breaks. holds breaks.1)
         ]
@@ -149,24 +156,35 @@ module _ (permitted_or_not : PermittedOrNot) (always : List (List ℕ)) (r : Row
   abbrev IsBroken : Link → Type 0
   IsBroken link = (choice : Choice) × (length choice ≡ length r.options) × BreaksAt link choice
 
-  broken_or_sound : (link : Link) → IsBroken link ⊎ IsSound (pageless_setting always r) lines link
+  broken_or_sound : (link : Link) → IsBroken link ⊎ IsSound over lines link
   broken_or_sound link =
       elim (some_choice (length r.options) (BreaksAt link) (breaks_there_or_not link)) [
         | inl broken ↦ inl broken
         | inr none ↦ inr (λ choice permits breaks. none choice permits.0 (permits.1, breaks))
       ]
 
-  -- each document has a verdict
-  pub every_verdict : (verdict : Verdict) × IsVerdict (pageless_setting always r) lines verdict
-  every_verdict =
-      let all = all_links (pageless_setting always r) lines in
-      elim (first_or_none Link (IsSound (pageless_setting always r) lines) IsBroken broken_or_sound all) [
+  -- whichever closures the choices have, there is a verdict
+  verdict_over : (verdict : Verdict) × IsVerdict over lines verdict
+  verdict_over =
+      let all = all_links over lines in
+      elim (first_or_none Link (IsSound over lines) IsBroken broken_or_sound all) [
         | inr sound ↦ (Yes (length all), (refl, sound))
         | inl is ↦
             let link = is.first in
             let choice = is.bad.0 in
-            let id = link_id (pageless_setting always r) lines choice link in (
-              No link.place id choice (count_of (pageless_setting always r) lines choice id),
+            let id = link_id over lines choice link in (
+              No link.place id choice (count_of over lines choice id),
               record { before = is.before; link = link; after = is.after; here = is.here; first = is.good; permitted = (is.bad.1, is.bad.2.0); broken = is.bad.2.1; place_is = refl; id_is = refl; counted = refl },
             )
       ]
+
+-- each choice of a registry's options has its closure
+closures_of : ClosuresAreThere → (r : Rows) → length r.rows ≡ length r.names → AreWithin r.rows → (closure : Choice → List Bool) × AreClosures r closure
+closures_of there r counted within = (λ choice. (there r choice counted within).0, λ choice fits. (there r choice counted within).1)
+
+-- each document has a verdict over a registry
+pub every_verdict : PermittedOrNot → ClosuresAreThere → (always : List (List ℕ)) (r : Rows) (lines : List FlatLine) → length r.rows ≡ length r.names → AreWithin r.rows → (verdict : Verdict) × IsJudged always r lines verdict
+every_verdict permitted_or_not there always r lines counted within =
+    let closures = closures_of there r counted within in
+    let told = verdict_over permitted_or_not always r closures.0 lines within in
+    (told.0, (closures.0, closures.1, told.1))

@@ -1,8 +1,6 @@
 -- Words and files come to something, whatever they are.
-use Rattle.std.proofs.Common.{inl, inr, ◌≡◌, ◌⊎◌, ℕ, zero, suc, ◌<◌, List, [], ◌∷◌, length, Option, Some, None, slice_get, false, refl, ap, subst, arith, All}
-use Rattle.std.proofs.lemmas.Bool.{cases_Bool, cases_lt}
-use Rattle.std.proofs.lemmas.List.Elements.{All-cons, All-nil}
-use Rattle.std.proofs.lemmas.Option.{same_Some}
+use Rattle.std.proofs.Common.{inl, inr, ◌≡◌, ℕ, ◌<◌, List, [], length, Option, Some, None, refl, ap, subst, All}
+use Rattle.std.proofs.lemmas.List.Elements.{All-nil}
 use Rattle.vkb_outside.specs.Shelf.{Files}
 use Rattle.doc_tree.specs.Fault.{Fault as DocumentFault}
 use Rattle.doc_tree.specs.Flat.{FlatLine}
@@ -20,8 +18,6 @@ use Rattle.reg_permit.specs.Existence.{PermittedOrFirst}
 use Rattle.reg_permit.specs.Laws.{PermittedOrNot}
 use Rattle.doc_build.specs.Built.{choice_text}
 use Rattle.doc_build.specs.Choices.{free_names}
-use Rattle.lift_check.specs.Choices.{most_options}
-use Rattle.lift_check.specs.Verdict.{JudgedWithoutPages}
 use Rattle.vkb_tool.specs.declared.status.Status.TheVariants.{Done, Refused, Usage}
 use Rattle.vkb_tool.specs.declared.document.Task.{Task}
 use Rattle.vkb_tool.specs.declared.document.Task.TheVariants as asks
@@ -29,14 +25,13 @@ use Rattle.vkb_tool.specs.declared.words.Request.{Request}
 use Rattle.vkb_tool.specs.declared.words.Request.TheVariants.{Build, Check, Header, Tag}
 use Rattle.vkb_tool.specs.Asked.{TellsFor, request_of}
 use Rattle.vkb_tool.specs.Declaring.{TellsText}
-use Rattle.vkb_tool.specs.Fault.{Fault, InDocument, InRegistry, NotBuilt, TooManyNames}
-use Rattle.vkb_tool.specs.Outcome.{AreBuilt, Effect, IsFaultIn, IsFirstUnbuilt, IsOffered, IsRegistryOf, Outcome, is_unbuilt, misplaced, most_text, refused, status_of, writes_alone}
+use Rattle.vkb_tool.specs.Fault.{InDocument, InRegistry}
+use Rattle.vkb_tool.specs.Outcome.{Effect, IsOffered, IsRegistryOf, Outcome, misplaced, most_text, refused, status_of, writes_alone}
 use Rattle.vkb_tool.specs.Report.{fault_line, report_of, usage_line}
 use Rattle.vkb_tool.specs.Tags.{read_fault}
 use Rattle.vkb_tool.specs.Words.{Spells}
 use Rattle.vkb_tool.specs.Registry.{IsRegistry}
 use Rattle.vkb_tool.proofs.AgreementLemmas.{OneWalk}
-use Rattle.vkb_tool.proofs.CheckLemmas.{no_pages_included, nothing_wrong}
 use Rattle.vkb_tool.proofs.ChoiceLemmas.{choice_comes}
 use Rattle.vkb_tool.proofs.EveryRequest.{every_request}
 use Rattle.vkb_tool.proofs.EveryVerdict.{every_verdict}
@@ -44,37 +39,6 @@ use Rattle.vkb_tool.proofs.TagsLemmas.{HavePages, tags_come_to}
 use Rattle.vkb_tool.proofs.HeaderLemmas.{header_told, options_come, rows_counted}
 use Rattle.vkb_tool.proofs.OutcomeLemmas.{HaveSources, IsWalked, registry_fault, told_for, walk_fault}
 use Rattle.vkb_tool.proofs.RegistryLemmas.{every_registry}
-
--- the first line that isn't built, behind one that is
-unbuilt_behind : (declared : List (List ℕ)) (first : FlatLine) (lines : List FlatLine) (line : FlatLine) → is_unbuilt declared first.kind ≡ false → IsFirstUnbuilt declared lines line → IsFirstUnbuilt declared (first ∷ lines) line
-unbuilt_behind declared first lines line built is = record { place = suc is.place; here = is.here; unbuilt = is.unbuilt; first = built_before }
-  where
-    built_before : (before : ℕ) (other : FlatLine) → before < suc is.place → slice_get (first ∷ lines) before ≡ Some other → is_unbuilt declared other.kind ≡ false
-    built_before zero other earlier here = subst (λ (l : FlatLine). is_unbuilt declared l.kind ≡ false) (same_Some first other here) built
-    built_before (suc before) other earlier here = is.first before other (omega arith) here
-
--- one line is the first that isn't built, or all are built
-unbuilt_or_built : (declared : List (List ℕ)) (lines : List FlatLine) → ((line : FlatLine) × IsFirstUnbuilt declared lines line) ⊎ AreBuilt declared lines
-unbuilt_or_built declared [] = inr (All-nil (λ (line : FlatLine). is_unbuilt declared line.kind ≡ false))
-unbuilt_or_built declared (first ∷ lines) =
-    elim (cases_Bool (is_unbuilt declared first.kind)) [
-      | inl unbuilt ↦ inl (first, record { place = 0; here = refl; unbuilt = unbuilt; first = λ before other earlier here. absurd (omega arith) })
-      | inr built ↦ elim (unbuilt_or_built declared lines) [
-        | inl found ↦ inl (found.0, unbuilt_behind declared first lines found.0 built found.1)
-        | inr rest ↦ inr (All-cons (λ (line : FlatLine). is_unbuilt declared line.kind ≡ false) first lines built rest)
-      ]
-    ]
-
--- lines have a first fault, over a registry, or all are built and there is none
-fault_or_none : (r : Rows) (lines : List FlatLine) → ((fault : Fault) × IsFaultIn r lines fault) ⊎ (AreBuilt r.names lines × ((fault : Fault) → ¬ IsFaultIn r lines fault))
-fault_or_none r lines =
-    elim (unbuilt_or_built r.names lines) [
-      | inl (line, first) ↦ inl (NotBuilt line.file line.number, (line, first, refl, refl))
-      | inr built ↦ elim (cases_lt most_options (length r.options)) [
-        | inl many ↦ inl (TooManyNames (length r.options), (built, record { counted = refl; many = many }))
-        | inr few ↦ inr (built, nothing_wrong r lines built few)
-      ]
-    ]
 
 -- each name of a registry has a row, and what the rows name is there
 record IsWhole (r : Rows) : Type 0 where
@@ -85,18 +49,13 @@ record IsWhole (r : Rows) : Type 0 where
 abbrev HasRegistries : Files → Option (List ℕ) → List ℕ → List (List ℕ) → Type 0
 HasRegistries files registry api always = (lines : List FlatLine) → (r : Rows) × IsRegistryOf files registry api always lines r × IsWhole r
 
-module _ (have : HaveSources) (one_walk : OneWalk) (pages : HavePages) (one_answer : OneAnswer) (one_rows : AnswersAreOne) (each_answered : EachIsAnswered) (rows_within : RowsAreWithin) (judged_without : JudgedWithoutPages) (permitted_or_not : PermittedOrNot) (closures : ClosuresAreThere) (orders : OrdersAreThere) (permitted_or_first : PermittedOrFirst)
+module _ (have : HaveSources) (one_walk : OneWalk) (pages : HavePages) (one_answer : OneAnswer) (one_rows : AnswersAreOne) (each_answered : EachIsAnswered) (rows_within : RowsAreWithin) (permitted_or_not : PermittedOrNot) (closures : ClosuresAreThere) (orders : OrdersAreThere) (permitted_or_first : PermittedOrFirst)
     (words : List (List ℕ)) (files : Files) where
   -- a request on a document comes to something over its registry
   task_comes : (task : Task) (always : List (List ℕ)) (r : Rows) (lines : List FlatLine) → IsWhole r → (effect : Effect) × TellsFor task always r lines effect
   task_comes asks.Check always r lines whole =
-      elim (fault_or_none r lines) [
-        | inl (fault, stands) ↦ (writes_alone Refused (fault_line fault), inl (record { fault = fault; first = stands; told = refl }))
-        | inr (built, none) ↦
-            let judged = every_verdict permitted_or_not always r lines whole.within in
-            let is = judged_without always r lines judged.0 whole.counted whole.within (no_pages_included r lines built) judged.1 in
-            (writes_alone (status_of judged.0) (report_of lines r.options judged.0), inr (record { none = none; verdict = judged.0; is = is; told = refl }))
-      ]
+      let judged = every_verdict permitted_or_not closures always r lines whole.counted whole.within in
+      (writes_alone (status_of judged.0) (report_of lines r.options judged.0), record { verdict = judged.0; is = judged.1; told = refl })
   task_comes (asks.Build names) always r lines whole =
       choice_comes permitted_or_first r names whole.within (TellsText always r lines) (λ chosen.
       let closure = closures r chosen whole.counted whole.within in

@@ -23,7 +23,7 @@ use Rattle.vkb_tool.specs.declared.status.Status.TheVariants.{Done, Refused}
 use Rattle.vkb_tool.specs.declared.words.Request.TheVariants.{Header}
 use Rattle.vkb_tool.specs.declared.registry.RegistryFault.{RegistryFault}
 use Rattle.vkb_tool.specs.Declaring.{TellsAtChoice, TellsHeader}
-use Rattle.vkb_tool.specs.Fault.{Fault, BadTag, InDocument, InRegistry, NoNumber, NotBuilt, NotPermitted, TooManyNames, UnknownOption}
+use Rattle.vkb_tool.specs.Fault.{Fault, BadTag, InDocument, InRegistry, NoNumber, NotPermitted, UnknownOption}
 use Rattle.vkb_tool.specs.Outcome.{Effect, HasNoFault, IsDeclared, IsFaultAt, IsHeaderFault, Outcome, declared, determined, refused, writes_alone}
 use Rattle.vkb_tool.specs.Registry.{IsRegistry, IsRegistryFault}
 use Rattle.vkb_tool.specs.Report.{fault_line}
@@ -39,8 +39,6 @@ data Kinds (files : Files) (registry api : List ℕ) (names : List (List ℕ)) (
 kind_of : (files : Files) (registry api : List ℕ) (names : List (List ℕ)) (fault : Fault) → IsHeaderFault files registry api names fault → Kinds files registry api names fault
 kind_of files registry api names (InRegistry file asked wrong) is = in_file wrong (ap (λ (f : List ℕ). InRegistry f asked wrong) is.0 ∙ ap (λ (a : List ℕ). InRegistry registry a wrong) is.1) is.2
 kind_of files registry api names (InDocument fault) is = absurd is
-kind_of files registry api names (NotBuilt file number) is = absurd is
-kind_of files registry api names (TooManyNames count) is = absurd is
 kind_of files registry api names (UnknownOption word) is = at_choice is.0 is.1.0 is.1.1
 kind_of files registry api names (NotPermitted option) is = at_choice is.0 is.2.0 (is.1, is.2.1, is.3)
 kind_of files registry api names (BadTag file number) is = absurd is
@@ -50,8 +48,6 @@ kind_of files registry api names (NoNumber needed left) is = absurd is
 choice_fault : (files : Files) (registry api : List ℕ) (names : List (List ℕ)) (r : Rows) (fault : Fault) → IsRegistry (files registry) api r → IsFaultAt r names fault → IsHeaderFault files registry api names fault
 choice_fault files registry api names r (InRegistry file asked wrong) read is = absurd is
 choice_fault files registry api names r (InDocument fault) read is = absurd is
-choice_fault files registry api names r (NotBuilt file number) read is = absurd is
-choice_fault files registry api names r (TooManyNames count) read is = absurd is
 choice_fault files registry api names r (UnknownOption word) read is = (r, (read, is))
 choice_fault files registry api names r (NotPermitted option) read is = (r, is.0, (read, is.1), is.2)
 choice_fault files registry api names r (BadTag file number) read is = absurd is

@@ -14,6 +14,7 @@ pub mod TagsLemmas
 pub mod EndingsLemmas
 pub mod AgreementLemmas
 pub mod EveryRequest
+pub mod ListLemmas
 pub mod HeaderLemmas
 pub mod WholeLemmas
 pub mod EveryVerdict

@@ -16,8 +16,8 @@ use Rattle.reg_rows.specs.Laws.{AnswersAreOne}
 use Rattle.vkb_tool.specs.declared.registry.RegistryFault.{RegistryFault}
 use Rattle.vkb_tool.specs.Asked.{TellsFor, TellsOver, request_of}
 use Rattle.vkb_tool.specs.Check.{IsOver, IsOwn}
-use Rattle.vkb_tool.specs.Fault.{Fault, BadTag, InDocument, InRegistry, NoNumber, NotBuilt, NotPermitted, TooManyNames, UnknownOption}
-use Rattle.vkb_tool.specs.Outcome.{Effect, HasNoFault, IsBuildFault, IsCheckFault, IsFaultAt, IsFaultIn, IsFirstFault, IsOffered, IsRegistryOf, IsSubject, Outcome, built, checked, most_text, refused, writes_alone}
+use Rattle.vkb_tool.specs.Fault.{Fault, BadTag, InDocument, InRegistry, NoNumber, NotPermitted, UnknownOption}
+use Rattle.vkb_tool.specs.Outcome.{Effect, HasNoFault, IsBuildFault, IsCheckFault, IsFaultAt, IsFirstFault, IsOffered, IsRegistryOf, IsSubject, Outcome, built, checked, most_text, refused, writes_alone}
 use Rattle.vkb_tool.specs.Registry.{IsRegistry, IsRegistryFault}
 use Rattle.vkb_tool.specs.Report.{document_fault_line, fault_line}
 use Rattle.vkb_tool.proofs.ChoiceLemmas.{choice_sound}
@@ -49,11 +49,13 @@ pub data Kinds (files : Files) (registry : Option (List ℕ)) (root api : List �
   in_walk : (walked : DocumentFault) → fault ≡ InDocument walked → IsOffered files registry api → IsFaultOf files most_text root walked → Kinds files registry root api always IsInner fault
   inside : (r : Rows) (flat : List FlatLine) → IsSubject files registry root api always r flat → IsInner r flat fault → Kinds files registry root api always IsInner fault
 
-pub kind_of_check : (files : Files) (registry : Option (List ℕ)) (root api : List ℕ) (always : List (List ℕ)) (fault : Fault) → IsCheckFault files registry root api always fault → Kinds files registry root api always IsFaultIn fault
+-- nothing is wrong with a document over its registry, where only a verdict is asked for
+abbrev pub NoneInside : Rows → List FlatLine → Fault → Type 0
+NoneInside r lines fault = ⊥
+
+pub kind_of_check : (files : Files) (registry : Option (List ℕ)) (root api : List ℕ) (always : List (List ℕ)) (fault : Fault) → IsCheckFault files registry root api always fault → Kinds files registry root api always NoneInside fault
 kind_of_check files registry root api always (InRegistry file asked wrong) is = in_registry file wrong (ap (λ (a : List ℕ). InRegistry file a wrong) is.1) is.0 is.2
 kind_of_check files registry root api always (InDocument walked) is = in_walk walked refl is.0 is.1
-kind_of_check files registry root api always (NotBuilt file number) is = inside is.0 is.1 is.2 is.3
-kind_of_check files registry root api always (TooManyNames count) is = inside is.0 is.1 is.2 is.3
 kind_of_check files registry root api always (UnknownOption word) is = absurd is
 kind_of_check files registry root api always (NotPermitted option) is = absurd is
 kind_of_check files registry root api always (BadTag file number) is = absurd is
@@ -67,8 +69,6 @@ pub kind_of_build : (files : Files) (registry : Option (List ℕ)) (root api : L
     → Kinds files registry root api always (AtChoice names) fault
 kind_of_build files registry root api names always (InRegistry file asked wrong) is = in_registry file wrong (ap (λ (a : List ℕ). InRegistry file a wrong) is.1) is.0 is.2
 kind_of_build files registry root api names always (InDocument walked) is = in_walk walked refl is.0 is.1
-kind_of_build files registry root api names always (NotBuilt file number) is = absurd is
-kind_of_build files registry root api names always (TooManyNames count) is = absurd is
 kind_of_build files registry root api names always (UnknownOption word) is = inside is.0 is.1 is.2 is.3
 kind_of_build files registry root api names always (NotPermitted option) is = inside is.0 is.1 is.2 is.3
 kind_of_build files registry root api names always (BadTag file number) is = absurd is
@@ -107,34 +107,20 @@ module _ (one_answer : OneAnswer) (one_rows : AnswersAreOne) where
       none fault (moved IsInner files registry root api always r other lines others fault walked over is stands)
 
   pub check_faultless : (files : Files) (registry : Option (List ℕ)) (root api : List ℕ) (always : List (List ℕ)) (r : Rows) (lines : List FlatLine) → IsWalked files root lines
-      → IsRegistryOf files registry api always lines r → IsOffered files registry api → ((fault : Fault) → ¬ IsFaultIn r lines fault) → HasNoFault (Check registry root api always) files
-  check_faultless files registry root api always r lines walked over offered none fault is =
-      faultless IsFaultIn files registry root api always r lines walked over offered none fault (kind_of_check files registry root api always fault is)
+      → IsRegistryOf files registry api always lines r → IsOffered files registry api → HasNoFault (Check registry root api always) files
+  check_faultless files registry root api always r lines walked over offered fault is =
+      faultless NoneInside files registry root api always r lines walked over offered (λ none inside. inside) fault (kind_of_check files registry root api always fault is)
 
   pub build_faultless : (files : Files) (registry : Option (List ℕ)) (root api : List ℕ) (names always : List (List ℕ)) (r : Rows) (lines : List FlatLine) → IsWalked files root lines
       → IsRegistryOf files registry api always lines r → IsOffered files registry api → ((fault : Fault) → ¬ IsFaultAt r names fault) → HasNoFault (Build registry root api names always) files
   build_faultless files registry root api names always r lines walked over offered none fault is =
       faultless (AtChoice names) files registry root api always r lines walked over offered none fault (kind_of_build files registry root api names always fault is)
 
--- a fault in the lines of what is checked is one in what is asked
-pub fault_there : (files : Files) (registry : Option (List ℕ)) (root api : List ℕ) (always : List (List ℕ)) (r : Rows) (lines : List FlatLine) (fault : Fault) → IsSubject files registry root api always r lines
-    → IsFaultIn r lines fault → IsCheckFault files registry root api always fault
-fault_there files registry root api always r lines (InRegistry file asked fault) is stands = absurd stands
-fault_there files registry root api always r lines (InDocument fault) is stands = absurd stands
-fault_there files registry root api always r lines (NotBuilt file number) is stands = (r, lines, is, stands)
-fault_there files registry root api always r lines (TooManyNames count) is stands = (r, lines, is, stands)
-fault_there files registry root api always r lines (UnknownOption word) is stands = absurd stands
-fault_there files registry root api always r lines (NotPermitted option) is stands = absurd stands
-fault_there files registry root api always r lines (BadTag file number) is stands = absurd stands
-fault_there files registry root api always r lines (NoNumber needed left) is stands = absurd stands
-
--- and so is a fault of the choice at which a text is built
+-- a fault of the choice at which a text is built is one in what is asked
 pub choice_fault_there : (files : Files) (registry : Option (List ℕ)) (root api : List ℕ) (names always : List (List ℕ)) (r : Rows) (lines : List FlatLine) (fault : Fault) → IsSubject files registry root api always r lines
     → IsFaultAt r names fault → IsBuildFault files registry root api names always fault
 choice_fault_there files registry root api names always r lines (InRegistry file asked fault) is stands = absurd stands
 choice_fault_there files registry root api names always r lines (InDocument fault) is stands = absurd stands
-choice_fault_there files registry root api names always r lines (NotBuilt file number) is stands = absurd stands
-choice_fault_there files registry root api names always r lines (TooManyNames count) is stands = absurd stands
 choice_fault_there files registry root api names always r lines (UnknownOption word) is stands = (r, lines, is, stands)
 choice_fault_there files registry root api names always r lines (NotPermitted option) is stands = (r, lines, is, stands)
 choice_fault_there files registry root api names always r lines (BadTag file number) is stands = absurd stands
@@ -170,15 +156,9 @@ module _ (one_answer : OneAnswer) (one_rows : AnswersAreOne) (words : List (List
   -- what is told of a document over its registry is what the words and the files come to
   pub told_for : (task : Task) → Spells words (request_of task registry root api always) → TellsFor task always r lines effect → Outcome words files effect
   told_for asks.Check spelled tells =
-      elim tells [
-        | inl wrong ↦
-            subst (λ (e : Effect). Outcome words files e) (sym wrong.told)
-            (refused (Check registry root api always) wrong.fault spelled (fault_there files registry root api always r lines wrong.fault subject wrong.first))
-        | inr judged ↦
-            subst (λ (e : Effect). Outcome words files e) (sym judged.told)
-            (checked registry root api always r lines judged.verdict spelled
-            (check_faultless one_answer one_rows files registry root api always r lines walked subject.over offered judged.none) subject judged.is)
-      ]
+      subst (λ (e : Effect). Outcome words files e) (sym tells.told)
+      (checked registry root api always r lines tells.verdict spelled
+      (check_faultless one_answer one_rows files registry root api always r lines walked subject.over offered) subject tells.is)
   told_for (asks.Build names) spelled tells =
       elim tells [
         | inl wrong ↦

@@ -20,7 +20,7 @@ use Rattle.reg_rows.specs.declared.fault.RowFault.{RowFault}
 use Rattle.reg_rows.specs.declared.fault.RowFault.TheVariants as row
 use Rattle.vkb_tool.specs.declared.registry.RegistryFault.{RegistryFault}
 use Rattle.vkb_tool.specs.declared.registry.RegistryFault.TheVariants.{Missing, TooLarge, BadMarkup, TooDeep, BadRow, NoFeature, NamingCycle}
-use Rattle.vkb_tool.specs.Fault.{Fault, BadTag, InDocument, InRegistry, NoNumber, NotBuilt, NotPermitted, TooManyNames, UnknownOption}
+use Rattle.vkb_tool.specs.Fault.{Fault, BadTag, InDocument, InRegistry, NoNumber, NotPermitted, UnknownOption}
 use Rattle.vkb_tool.specs.Outcome.{determined, settled}
 use Rattle.vkb_tool.specs.Registry.{ComesTo, IsHeld, IsRegistry, IsRegistryFault, most_registry}
 
@@ -244,8 +244,6 @@ alike_settled fault other same =
 registry_or_determined : (fault : Fault) → ((file api : List ℕ) × (wrong : RegistryFault) × (fault ≡ InRegistry file api wrong)) ⊎ ((determined fault ≡ fault) × ((file api : List ℕ) (wrong : RegistryFault) → fault ≢ InRegistry file api wrong))
 registry_or_determined (InRegistry file api wrong) = inl (file, api, wrong, refl)
 registry_or_determined (InDocument fault) = inr (refl, λ file api wrong same. absurd (cc))
-registry_or_determined (NotBuilt name line) = inr (refl, λ file api wrong same. absurd (cc))
-registry_or_determined (TooManyNames count) = inr (refl, λ file api wrong same. absurd (cc))
 registry_or_determined (UnknownOption word) = inr (refl, λ file api wrong same. absurd (cc))
 registry_or_determined (NotPermitted option) = inr (refl, λ file api wrong same. absurd (cc))
 registry_or_determined (BadTag name line) = inr (refl, λ file api wrong same. absurd (cc))

@@ -15,7 +15,7 @@ use Rattle.vu_tags.specs.declared.TagFault.TheVariants as tags
 use Rattle.vkb_tool.specs.declared.status.Status.TheVariants.{Refused}
 use Rattle.vkb_tool.specs.declared.words.Request.TheVariants.{Tag}
 use Rattle.vkb_tool.specs.Answer.{AreHeld}
-use Rattle.vkb_tool.specs.Fault.{Fault, BadTag, InDocument, InRegistry, NoNumber, NotBuilt, NotPermitted, TooManyNames, UnknownOption}
+use Rattle.vkb_tool.specs.Fault.{Fault, BadTag, InDocument, InRegistry, NoNumber, NotPermitted, UnknownOption}
 use Rattle.vkb_tool.specs.Outcome.{AreRead, Effect, IsTagsFault, Outcome, Put, most_text, puts_tags, refused, tagged, writes_alone}
 use Rattle.vkb_tool.specs.Report.{fault_line}
 use Rattle.vkb_tool.specs.Tagging.{TellsOfTags, bad_tag, new_tags, no_number}
@@ -40,10 +40,6 @@ never_both first texts place line needed left bad few = false≢true (sym few.0.
 pub same_tags_fault : (files : Files) (first : ℕ) (names : List (List ℕ)) (fault other : Fault) → IsTagsFault files first names fault → IsTagsFault files first names other → fault ≡ other
 same_tags_fault files first names (InRegistry file api wrong) other is also = absurd is
 same_tags_fault files first names fault (InRegistry file api wrong) is also = absurd also
-same_tags_fault files first names (NotBuilt file number) other is also = absurd is
-same_tags_fault files first names (TooManyNames count) other is also = absurd is
-same_tags_fault files first names fault (NotBuilt file number) is also = absurd also
-same_tags_fault files first names fault (TooManyNames count) is also = absurd also
 same_tags_fault files first names (UnknownOption word) other is also = absurd is
 same_tags_fault files first names (NotPermitted option) other is also = absurd is
 same_tags_fault files first names fault (UnknownOption word) is also = absurd also
@@ -105,8 +101,6 @@ among_names P (name ∷ names) (old ∷ olds) (new ∷ news) all =
 can_none : (files : Files) (first : ℕ) (names : List (List ℕ)) → AreRead files names → CanTag first (texts_of files names) → (fault : Fault) → ¬ IsTagsFault files first names fault
 can_none files first names read can (InRegistry file api fault) is = is
 can_none files first names read can (InDocument fault) is = none-some fault (sym read ∙ is)
-can_none files first names read can (NotBuilt file number) is = is
-can_none files first names read can (TooManyNames count) is = is
 can_none files first names read can (UnknownOption word) is = is
 can_none files first names read can (NotPermitted option) is = is
 can_none files first names read can (BadTag file line) (also, (place, named, is)) = false≢true (sym can.well ∙ (bad_there (texts_of files names) place line is).0)

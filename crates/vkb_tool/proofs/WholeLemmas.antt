@@ -20,13 +20,13 @@ use Rattle.reg_closure.specs.Orders.{StandBehind}
 use Rattle.reg_rows.specs.Commands.{OnlyCommandsNameCommands}
 use Rattle.reg_closure.proofs.NumberLemmas.{none-twice}
 use Rattle.reg_closure.proofs.PlacedLemmas.{Contains-cases, Contains-first, Contains-map, Contains-rest, place-of}
-use Rattle.lift_check.proofs.SitesLemmas.{Contains-filter}
 use Rattle.hdr_writer.specs.Declarations.{declaration}
 use Rattle.hdr_writer.specs.Headers.{defines, header, is_command, is_command_kind, prologue}
 use Rattle.hdr_writer.specs.Lines.{line}
 use Rattle.vkb_tool.specs.Laws.{HeadersAreWhole, StandsBefore, written_order}
 use Rattle.vkb_tool.specs.Registry.{IsRegistry}
 use Rattle.vkb_tool.proofs.HeaderLemmas.{rows_counted, rows_in_no_circle}
+use Rattle.vkb_tool.proofs.ListLemmas.{Contains-filter}
 
 -- the places of names
 abbrev places_of : List NameId → List ℕ

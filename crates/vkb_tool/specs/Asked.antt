@@ -6,7 +6,7 @@ use Rattle.vkb_tool.specs.declared.document.Task.{Task}
 use Rattle.vkb_tool.specs.declared.document.Task.TheVariants as asks
 use Rattle.vkb_tool.specs.declared.words.Request.{Request}
 use Rattle.vkb_tool.specs.declared.words.Request.TheVariants.{Build, Check}
-use Rattle.vkb_tool.specs.Check.{IsOver, TellsOf}
+use Rattle.vkb_tool.specs.Check.{IsOver, TellsVerdict}
 use Rattle.vkb_tool.specs.Declaring.{TellsAtChoice, TellsText}
 use Rattle.vkb_tool.specs.Outcome.{Effect}
 
@@ -17,7 +17,7 @@ request_of (asks.Build names) registry root api always = Build registry root api
 
 -- what is told of a document whose walk has no fault, over a registry
 abbrev pub TellsFor : Task → List (List ℕ) → Rows → List FlatLine → Effect → Type 0
-TellsFor asks.Check always r lines effect = TellsOf always r lines effect
+TellsFor asks.Check always r lines effect = TellsVerdict always r lines effect
 TellsFor (asks.Build names) always r lines effect = TellsAtChoice r names (TellsText always r lines) effect
 
 -- what is told of it, over the registry that was read or a bare one

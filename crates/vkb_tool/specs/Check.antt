@@ -1,5 +1,5 @@
 -- What is read for a check or a text, and what an answer to a check says: for private contracts alone.
-use Rattle.std.specs.Prelude.{◌≡◌, ◌≢◌, ◌⊎◌, ℕ, ◌<◌, List, length, Option, Some, None, Result, Ok, Err, All, ⊤}
+use Rattle.std.specs.Prelude.{◌≡◌, ◌≢◌, ℕ, ◌<◌, List, length, Option, Some, None, Result, Ok, Err, All, ⊤}
 use Rattle.vkb_outside.specs.Faults.{Rose}
 use Rattle.vkb_outside.specs.Shelf.{Files}
 use Rattle.reg_registry.specs.Rows.{Rows, bare_rows}
@@ -19,7 +19,7 @@ use Rattle.vkb_tool.specs.declared.registry.Unread.TheVariants.{Faulty, Troubled
 use Rattle.vkb_tool.specs.Fault.{Fault}
 use Rattle.vkb_tool.specs.Registry.{IsRegistry, IsRegistryFault}
 use Rattle.vkb_tool.specs.declared.words.Request.{Request}
-use Rattle.vkb_tool.specs.Outcome.{Effect, IsFaultIn, Outcome, status_of, writes_alone}
+use Rattle.vkb_tool.specs.Outcome.{Effect, Outcome, status_of, writes_alone}
 use Rattle.vkb_tool.specs.Words.{Spells}
 use Rattle.vkb_tool.specs.Report.{fault_line, report_of}
 
@@ -33,16 +33,11 @@ pub record TellsFault (IsFirst : Fault → Type 0) (effect : Effect) : Type 0 wh
   pub first : IsFirst fault
   pub told : effect ≡ writes_alone Refused (fault_line fault)
 
--- there is none, and the verdict is told
+-- the verdict on a document over a registry is told, where some names are always set
 pub record TellsVerdict (always : List (List ℕ)) (r : Rows) (lines : List FlatLine) (effect : Effect) : Type 0 where
-  pub none : (fault : Fault) → ¬ IsFaultIn r lines fault
   pub verdict : Verdict
   pub is : IsJudged always r lines verdict
   pub told : effect ≡ writes_alone (status_of verdict) (report_of lines r.options verdict)
-
--- what is told of a document whose walk has no fault, over a registry, where some names are always set
-abbrev pub TellsOf : List (List ℕ) → Rows → List FlatLine → Effect → Type 0
-TellsOf always r lines effect = TellsFault (IsFaultIn r lines) effect ⊎ TellsVerdict always r lines effect
 
 -- the registry that was read, or where there is none the bare one of a document
 abbrev pub IsOver : Option Rows → List (List ℕ) → List FlatLine → Rows → Type 0

@@ -9,10 +9,6 @@ pub data Fault : Type 0 where
   InRegistry : (file api : List ℕ) (fault : RegistryFault) → Fault
   -- a fault of the walk over a document, or of a file that is read to be tagged
   InDocument : (fault : DocumentFault) → Fault
-  -- a line of the file has a form that isn't built yet
-  NotBuilt : (file : List ℕ) (line : ℕ) → Fault
-  -- so many options, more than 12, are left to choose
-  TooManyNames : (count : ℕ) → Fault
   -- the word is no option of a registry: the first such word
   UnknownOption : (word : List ℕ) → Fault
   -- the words name a choice that isn't permitted: the first option whose rule doesn't hold

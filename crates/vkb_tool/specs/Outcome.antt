@@ -1,9 +1,7 @@
 -- What a run of the program comes to, of the words and the files.
-use Rattle.std.specs.Prelude.{◌≡◌, ℕ, ◌<◌, Bool, true, false, Option, Some, None, slice_get, slice_index_or, List, [], length, map, take, All, ⊤}
+use Rattle.std.specs.Prelude.{◌≡◌, ℕ, Bool, Option, Some, None, slice_get, slice_index_or, List, [], map, take, ⊤}
 use Rattle.vkb_outside.specs.Shelf.{Files}
-use Rattle.doc_cond.specs.declared.LineKind.{LineKind}
-use Rattle.doc_cond.specs.declared.LineKind.TheVariants.{Api, Refpage, Validity}
-use Rattle.doc_tree.specs.Flat.{FlatLine, is_among}
+use Rattle.doc_tree.specs.Flat.{FlatLine}
 use Rattle.doc_tree.specs.Walk.{IsDocument, IsFaultOf}
 use Rattle.vkb_formula.specs.declared.name_table.NameId.{NameId}
 use Rattle.reg_registry.specs.Rows.{Rows, bare_rows}
@@ -18,7 +16,6 @@ use Rattle.doc_build.specs.Built.{choice_text}
 use Rattle.doc_build.specs.Choices.{Choice, free_names}
 use Rattle.lift_check.specs.declared.Verdict.{Verdict}
 use Rattle.lift_check.specs.declared.Verdict.TheVariants.{Yes, No}
-use Rattle.lift_check.specs.Choices.{most_options}
 use Rattle.lift_check.specs.Verdict.{IsJudged}
 use Rattle.vu_tags.specs.Statements.{needed_of}
 use Rattle.vu_tags.specs.Tagged.{IsTagFault, Names, TellsPages, tagged_of}
@@ -29,7 +26,7 @@ use Rattle.vkb_tool.specs.declared.status.Status.{Status}
 use Rattle.vkb_tool.specs.declared.status.Status.TheVariants.{Done, Broken, Usage, Refused}
 use Rattle.vkb_tool.specs.declared.registry.RegistryFault.{RegistryFault}
 use Rattle.vkb_tool.specs.declared.registry.RegistryFault.TheVariants.{NamingCycle}
-use Rattle.vkb_tool.specs.Fault.{Fault, BadTag, InDocument, InRegistry, NoNumber, NotBuilt, NotPermitted, TooManyNames, UnknownOption}
+use Rattle.vkb_tool.specs.Fault.{Fault, BadTag, InDocument, InRegistry, NoNumber, NotPermitted, UnknownOption}
 use Rattle.vkb_tool.specs.Registry.{IsRegistry, IsRegistryFault}
 use Rattle.vkb_tool.specs.Words.{Spells, IsMisplaced}
 use Rattle.vkb_tool.specs.Tags.{changed, read_fault, texts_of}
@@ -38,41 +35,6 @@ use Rattle.vkb_tool.specs.Report.{usage_line, fault_line, report_of, tagged_line
 -- how many bytes all texts of a call may have
 abbrev pub most_text : ℕ
 most_text = 268435456
-
--- the kinds of lines that aren't built yet: those that set `refpage`, and those that include a page of a declared name
-abbrev pub is_unbuilt : List (List ℕ) → LineKind → Bool
-is_unbuilt declared (Refpage name) = true
-is_unbuilt declared (Api name) = is_among declared name
-is_unbuilt declared (Validity name) = is_among declared name
-is_unbuilt declared _ = false
-
--- the line is the first of a document whose form isn't built yet, where these names are declared
-pub record IsFirstUnbuilt (declared : List (List ℕ)) (lines : List FlatLine) (line : FlatLine) : Type 0 where
-  pub place : ℕ
-  pub here : slice_get lines place ≡ Some line
-  pub unbuilt : is_unbuilt declared line.kind ≡ true
-  pub first : (before : ℕ) (other : FlatLine) → before < place → slice_get lines before ≡ Some other → is_unbuilt declared other.kind ≡ false
-
--- lines whose forms are all built
-abbrev pub AreBuilt : List (List ℕ) → List FlatLine → Type 0
-AreBuilt declared lines = All (λ line. is_unbuilt declared line.kind ≡ false) lines
-
--- the options are too many: so many
-pub record AreTooMany (options : List (List ℕ)) (count : ℕ) : Type 0 where
-  pub counted : count ≡ length options
-  pub many : most_options < count
-
--- the first fault of a document whose walk has none, over a registry that has none: a line of a form that isn't built goes before options that
--- are too many
-abbrev pub IsFaultIn : Rows → List FlatLine → Fault → Type 0
-IsFaultIn r lines (InRegistry file api fault) = ⊥
-IsFaultIn r lines (InDocument fault) = ⊥
-IsFaultIn r lines (NotBuilt file number) = (line : FlatLine) × IsFirstUnbuilt r.names lines line × (file ≡ line.file) × (number ≡ line.number)
-IsFaultIn r lines (TooManyNames count) = AreBuilt r.names lines × AreTooMany r.options count
-IsFaultIn r lines (UnknownOption word) = ⊥
-IsFaultIn r lines (NotPermitted option) = ⊥
-IsFaultIn r lines (BadTag file number) = ⊥
-IsFaultIn r lines (NoNumber needed left) = ⊥
 
 -- the registry of a document: that of a file for an API, or without a file a bare one of the names of the document's conditions
 abbrev pub IsRegistryOf : Files → Option (List ℕ) → List ℕ → List (List ℕ) → List FlatLine → Rows → Type 0
@@ -89,14 +51,10 @@ pub record IsSubject (files : Files) (registry : Option (List ℕ)) (root api : 
   pub document : IsDocument files most_text root lines
   pub over : IsRegistryOf files registry api always lines r
 
--- the first fault of what is to be checked: those of the registry go before those of the document's walk, and these before all others
+-- the first fault of what is to be checked: those of the registry go before those of the document's walk
 abbrev pub IsCheckFault : Files → Option (List ℕ) → List ℕ → List ℕ → List (List ℕ) → Fault → Type 0
 IsCheckFault files registry root api always (InRegistry file asked fault) = (registry ≡ Some file) × (asked ≡ api) × IsRegistryFault (files file) api fault
 IsCheckFault files registry root api always (InDocument fault) = IsOffered files registry api × IsFaultOf files most_text root fault
-IsCheckFault files registry root api always (NotBuilt file number) =
-    (r : Rows) × (lines : List FlatLine) × IsSubject files registry root api always r lines × IsFaultIn r lines (NotBuilt file number)
-IsCheckFault files registry root api always (TooManyNames count) =
-    (r : Rows) × (lines : List FlatLine) × IsSubject files registry root api always r lines × IsFaultIn r lines (TooManyNames count)
 IsCheckFault files registry root api always (UnknownOption word) = ⊥
 IsCheckFault files registry root api always (NotPermitted option) = ⊥
 IsCheckFault files registry root api always (BadTag file number) = ⊥
@@ -106,8 +64,6 @@ IsCheckFault files registry root api always (NoNumber needed left) = ⊥
 abbrev pub IsFaultAt : Rows → List (List ℕ) → Fault → Type 0
 IsFaultAt r names (InRegistry file api fault) = ⊥
 IsFaultAt r names (InDocument fault) = ⊥
-IsFaultAt r names (NotBuilt file number) = ⊥
-IsFaultAt r names (TooManyNames count) = ⊥
 IsFaultAt r names (UnknownOption word) = IsChoiceFault r names (choice.UnknownOption word)
 IsFaultAt r names (NotPermitted option) = (id : NameId) × IsChoiceFault r names (choice.NotPermitted id) × (option ≡ slice_index_or r.options id.0 [])
 IsFaultAt r names (BadTag file number) = ⊥
@@ -117,8 +73,6 @@ IsFaultAt r names (NoNumber needed left) = ⊥
 abbrev pub IsBuildFault : Files → Option (List ℕ) → List ℕ → List ℕ → List (List ℕ) → List (List ℕ) → Fault → Type 0
 IsBuildFault files registry root api names always (InRegistry file asked fault) = (registry ≡ Some file) × (asked ≡ api) × IsRegistryFault (files file) api fault
 IsBuildFault files registry root api names always (InDocument fault) = IsOffered files registry api × IsFaultOf files most_text root fault
-IsBuildFault files registry root api names always (NotBuilt file number) = ⊥
-IsBuildFault files registry root api names always (TooManyNames count) = ⊥
 IsBuildFault files registry root api names always (UnknownOption word) =
     (r : Rows) × (lines : List FlatLine) × IsSubject files registry root api always r lines × IsFaultAt r names (UnknownOption word)
 IsBuildFault files registry root api names always (NotPermitted option) =
@@ -134,8 +88,6 @@ IsWrongChoice files registry api names r fault = IsRegistry (files registry) api
 abbrev pub IsHeaderFault : Files → List ℕ → List ℕ → List (List ℕ) → Fault → Type 0
 IsHeaderFault files registry api names (InRegistry file asked fault) = (file ≡ registry) × (asked ≡ api) × IsRegistryFault (files registry) api fault
 IsHeaderFault files registry api names (InDocument fault) = ⊥
-IsHeaderFault files registry api names (NotBuilt file number) = ⊥
-IsHeaderFault files registry api names (TooManyNames count) = ⊥
 IsHeaderFault files registry api names (UnknownOption word) = (r : Rows) × IsWrongChoice files registry api names r (choice.UnknownOption word)
 IsHeaderFault files registry api names (NotPermitted option) =
     (r : Rows) × (id : NameId) × IsWrongChoice files registry api names r (choice.NotPermitted id) × (option ≡ slice_index_or r.options id.0 [])
@@ -150,8 +102,6 @@ AreRead files names = read_fault files most_text names ≡ None
 abbrev pub IsTagsFault : Files → ℕ → List (List ℕ) → Fault → Type 0
 IsTagsFault files first names (InRegistry file api fault) = ⊥
 IsTagsFault files first names (InDocument fault) = read_fault files most_text names ≡ Some fault
-IsTagsFault files first names (NotBuilt file number) = ⊥
-IsTagsFault files first names (TooManyNames count) = ⊥
 IsTagsFault files first names (UnknownOption word) = ⊥
 IsTagsFault files first names (NotPermitted option) = ⊥
 IsTagsFault files first names (BadTag file line) = AreRead files names × ((place : ℕ) × (slice_get names place ≡ Some file) × IsTagFault first (texts_of files names) (tags.BadTag place line))

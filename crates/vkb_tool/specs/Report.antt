@@ -11,7 +11,7 @@ use Rattle.reg_forms.specs.declared.forms.RowCode.{RowCode}
 use Rattle.reg_forms.specs.declared.forms.RowCode.TheVariants.{BadAttribute, ApiType, BadExpression, DuplicateName, UnknownName, ValueRange, ValueClash, AliasCircle, NameLimit as RowLimit}
 use Rattle.vkb_tool.specs.declared.registry.RegistryFault.{RegistryFault}
 use Rattle.vkb_tool.specs.declared.registry.RegistryFault.TheVariants as registry
-use Rattle.vkb_tool.specs.Fault.{Fault, BadTag, InDocument, InRegistry, NoNumber, NotBuilt, NotPermitted, TooManyNames, UnknownOption}
+use Rattle.vkb_tool.specs.Fault.{Fault, BadTag, InDocument, InRegistry, NoNumber, NotPermitted, UnknownOption}
 
 -- what a line of a report ends in
 abbrev pub line_feed : List ℕ
@@ -108,8 +108,6 @@ registry_fault_line file api (registry.NamingCycle names) = items_line (codes "N
 abbrev pub fault_line : Fault → List ℕ
 fault_line (InRegistry file api fault) = registry_fault_line file api fault
 fault_line (InDocument fault) = document_fault_line fault
-fault_line (NotBuilt file line) = line_fault_line (codes "NotBuilt") file line
-fault_line (TooManyNames count) = codes "refused TooManyNames " ++ decimal count ++ line_feed
 fault_line (UnknownOption word) = word_fault_line (codes "UnknownOption") word
 fault_line (NotPermitted option) = word_fault_line (codes "NotPermitted") option
 fault_line (BadTag file line) = line_fault_line (codes "BadTag") file line

@@ -10,7 +10,7 @@ ghost use Rattle.vkb_tool.specs.declared.status.Status.TheVariants.{Broken};
 
 use crate::Request;
 use doc_tree::{files_have_sources, one_walk};
-use lift_check::{judged_without_pages, one_verdict};
+use lift_check::one_verdict;
 use reg_closure::{
     closures_are_closed, closures_are_there, one_closure, one_order, orders_are_there,
     orders_have_all,
@@ -70,7 +70,6 @@ pub fn each_has_an_outcome()
     answers_are_one();
     each_registry_is_answered();
     rows_are_within();
-    judged_without_pages();
     choices_are_permitted_or_not();
     choices_are_permitted_or_break_one_first();
     closures_are_there();

@@ -1,12 +1,11 @@
-ghost use Rattle.std.specs.Prelude.{◌≡◌, ◌++◌, ◌^◌, ◌<◌, List, ℕ, Some, codes, length, slice_get, string_bytes, IfErr, IfOk, OnOk};
+ghost use Rattle.std.specs.Prelude.{◌≡◌, ◌++◌, ◌^◌, ◌<◌, List, ℕ, Some, codes, length, string_bytes, IfErr, IfOk, OnOk};
 ghost use Rattle.std.specs.List.{flat_map};
 ghost use Rattle.doc_tree.specs.Answer.{told_of};
 ghost use Rattle.doc_tree.specs.Fault.{Fault as DocumentFault};
-ghost use Rattle.doc_tree.specs.Flat.{FlatLine};
 ghost use Rattle.doc_tree.specs.Loaded.{flat_of};
 ghost use Rattle.doc_build.specs.Choices.{chosen_of};
 ghost use Rattle.vkb_tool.specs.Check.{AreFilesThere, IsTroubleOf, NamesWithin};
-ghost use Rattle.vkb_tool.specs.Fault.{BadTag, NoNumber, NotBuilt, NotPermitted, TooManyNames, UnknownOption};
+ghost use Rattle.vkb_tool.specs.Fault.{BadTag, NoNumber, NotPermitted, UnknownOption};
 ghost use Rattle.vkb_tool.specs.Report.{broken_lines, document_fault_line, fault_line, file_fault_line, line_fault_line, place_text, report_of, spot_in, tagged_line, usage_line, with_line, word_fault_line};
 
 mod registry;
@@ -56,24 +55,6 @@ pub fn document_fault_text(alloc: Global, fault: &DocFault) -> Result<Vec<u8>, T
         DocFault::ReadFault => Err(Trouble::ReadFailed),
         DocFault::Memory => Err(Trouble::NoMemory),
     }
-}
-
-/// The line for a line of a document whose form isn't built yet.
-pub fn not_built_text(alloc: Global, document: &Document, line: usize) -> Result<Vec<u8>, Memory>
-    requires files { AreFilesThere document.now }
-    requires line { line < length document.now.lines }
-    ensures { IfOk result (λ text. (whole : List ℕ) (flat : FlatLine) → slice_get (flat_of whole document.now) line ≡ Some flat → text.items ≡ fault_line (NotBuilt flat.file flat.number)) }
-{
-    let place = document.lines.as_slice()[line].line;
-    let file = document.files.as_slice()[place.file as usize].as_slice();
-    line_fault_text(alloc, b"NotBuilt", file, place.number)
-}
-
-/// The line for options that are too many: so many.
-pub fn too_many_text(alloc: Global, count: u32) -> Result<Vec<u8>, Memory>
-    ensures { IfOk result (λ text. text.items ≡ fault_line (TooManyNames count)) }
-{
-    Ok(format!(in alloc; "refused TooManyNames {count}\n")?.into_bytes())
 }
 
 /// The report of so many new tags.

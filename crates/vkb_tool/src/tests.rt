@@ -1,6 +1,8 @@
 mod builds;
 mod chapters;
 mod headers;
+mod marks;
+mod pages;
 mod registries;
 mod tags;
 mod words;
@@ -123,8 +125,9 @@ fn each_choice_is_looked_at(rt: HostRuntime) -> Result<(), Fail> {
     breaks(&rt, alloc, text, "no a.adoc:1:14\na 0\nwith X\n")?;
     let text = "[[a]]\nifdef::Y+X[]\n[[a]]\nendif::[]\nifndef::Z[<<a>>]";
     breaks(&rt, alloc, text, "no a.adoc:5:11\na 2\nwith Y\nwith X\n")?;
-    let text = "[[a]] <<a>> <<b>>\nifdef::X,Y[]\n[[a]]\nendif::X,Y[]\nifndef::X+Y[ [[b]] ]";
-    breaks(&rt, alloc, text, "no a.adoc:1:7\na 2\nwith X\n")?;
+    let text = "[[a]] <<a>> <<b>>\nifdef::X+Y[]\n[[a]]\nendif::X+Y[]\nifndef::X,Y[ [[b]] ]";
+    let written = "no a.adoc:1:7\na 2\nwith X\nwith Y\n";
+    breaks(&rt, alloc, text, written)?;
     let text = "[[a]] ifdef::X[] is text, <<a>>\n ifdef::X[]\n<<a>>";
     holds(&rt, alloc, text, "yes 2\n")?;
     Ok(())
@@ -137,11 +140,11 @@ fn names_may_be_set_always(rt: HostRuntime) -> Result<(), Fail> {
     let written = "no a.adoc:1:14\na 0\n";
     let words = "check - a.adoc - +X";
     says(&rt, alloc, text, words, written, Status::Broken)?;
-    let text = "ifndef::X[<<a>>]\nifdef::X,Y[[[b]]]\n<<b>>";
+    let text = "ifndef::X,Y[<<a>>]\nifdef::X,Y[[[b]]]\n<<b>>";
     let words = "check - a.adoc - +X +Z-1_ +X";
     says(&rt, alloc, text, words, "yes 2\n", Status::Done)?;
     let words = "check - a.adoc - +x";
-    let written = "no a.adoc:1:11\na 0\n";
+    let written = "no a.adoc:1:13\na 0\n";
     says(&rt, alloc, text, words, written, Status::Broken)?;
     Ok(())
 }
@@ -167,9 +170,14 @@ fn faults_are_told_in_their_order(rt: HostRuntime) -> Result<(), Fail> {
     refuses(&rt, alloc, text, "refused BadCondition a.adoc:4\n")?;
     let text = "include::a[]\nendif::[]\n";
     refuses(&rt, alloc, text, "refused Unbalanced a.adoc:2\n")?;
-    refuses(&rt, alloc, ":refpage: VkA", "refused NotBuilt a.adoc:1\n")?;
-    let text = "\n\n:refpage: VkA\n:refpage: VkB\n";
-    refuses(&rt, alloc, text, "refused NotBuilt a.adoc:3\n")?;
+    let text = "slink:A\nifdef::X[]\n";
+    refuses(&rt, alloc, text, "refused Unbalanced a.adoc:2\n")?;
+    let text = "endif::[]\nifeval::[1]\n";
+    refuses(&rt, alloc, text, "refused BadCondition a.adoc:2\n")?;
+    let text = "ifdef::A,B[]\nendif::A+B[]\n";
+    refuses(&rt, alloc, text, "refused Unbalanced a.adoc:2\n")?;
+    let text = "ifdef::A,B[]\nendif::B,A[]\n";
+    refuses(&rt, alloc, text, "refused Unbalanced a.adoc:2\n")?;
     Ok(())
 }
 
@@ -212,17 +220,43 @@ fn conditionals_nest_64_deep(rt: HostRuntime) -> Result<(), Fail> {
 }
 
 #[test]
-fn twelve_options_are_tried(rt: HostRuntime) -> Result<(), Fail> {
+fn there_may_be_many_options(rt: HostRuntime) -> Result<(), Fail> {
     let alloc = rt.alloc();
-    let text = "ifdef::A,B,C,D,E,F,G,H,I,J,K,L[]\nendif::[]\nifdef::A+L+K[<<a>>]";
-    let written = "no a.adoc:3:14\na 0\nwith A\nwith K\nwith L\n";
+    let text = "ifdef::A+L+K[]\nifndef::B,C,D,E,F,G,H,I,J,M,N,O,P[<<a>>]\nendif::[]";
+    let written = "no a.adoc:2:35\na 0\nwith A\nwith L\nwith K\n";
     breaks(&rt, alloc, text, written)?;
     let text = "ifdef::A,B,C,D,E,F,G,H,I,J,K,L,M[]\nendif::[]\n";
-    refuses(&rt, alloc, text, "refused TooManyNames 13\n")?;
+    holds(&rt, alloc, text, "yes 0\n")?;
     let words = "check - a.adoc - +F";
     says(&rt, alloc, text, words, "yes 0\n", Status::Done)?;
-    let text = "ifdef::A,B,C,D,E,F,G,H,I,J,K,L,M[]\nendif::[]\n:refpage: VkA";
-    refuses(&rt, alloc, text, "refused NotBuilt a.adoc:3\n")?;
+    Ok(())
+}
+
+/// A text of so many options, each of which adds an anchor `a`, and a link to it where all are chosen but the last.
+fn anchors_of_options(alloc: Global, count: u32) -> Result<String, AllocError> {
+    let mut text = String::new(alloc);
+    let mut all = String::new(alloc);
+    for number in 0..count {
+        text.push_str(format!(in alloc; "ifdef::X{number}[[[a]]]\n")?.as_str())?;
+        all.push_str(format!(in alloc; "ifdef::X{number}[]\n")?.as_str())?;
+    }
+    text.push_str(all.as_str())?;
+    text.push_str("ifndef::Y[<<a>>]\n")?;
+    for _ in 0..count {
+        text.push_str("endif::[]\n")?;
+    }
+    Ok(text)
+}
+
+#[test]
+fn all_options_may_have_to_be_chosen(rt: HostRuntime) -> Result<(), Fail> {
+    let alloc = rt.alloc();
+    let text = anchors_of_options(alloc, 40)?;
+    let mut written = String::from_str(alloc, "no a.adoc:81:11\na 40\n")?;
+    for number in 0..40 {
+        written.push_str(format!(in alloc; "with X{number}\n")?.as_str())?;
+    }
+    breaks(&rt, alloc, text.as_str(), written.as_str())?;
     Ok(())
 }
 

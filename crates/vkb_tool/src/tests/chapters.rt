@@ -66,6 +66,9 @@ fn chapters_are_followed(rt: HostRuntime) -> Result<(), Fail> {
         "<<c>>\n",
         "no chapters/b.adoc:1:1\nc 0\nwith X\n",
     )?;
+    let round =
+        "ifdef::X[]\ninclude::{chapters}/b.adoc[]\nendif::[]\nifdef::X[]\n<<b>>\nendif::[]\n";
+    reads(&rt, alloc, round, "[[b]]\n", "yes 1\n")?;
     Ok(())
 }
 
@@ -95,15 +98,22 @@ fn faults_of_chapters_have_their_places(rt: HostRuntime) -> Result<(), Fail> {
         "ifeval::[]\n",
         "refused BadCondition chapters/b.adoc:1\n",
     )?;
-    let missing = "ifdef::X[]\ninclude::{chapters}/c.adoc[]\nendif::X[]\n";
-    reads(&rt, alloc, missing, "", "refused Missing chapters/c.adoc\n")?;
     reads(
         &rt,
         alloc,
-        a,
-        "\n:refpage: VkA\n",
-        "refused NotBuilt chapters/b.adoc:2\n",
+        "include::{chapters}/b.adoc[]\nendif::[]\n",
+        "endif::[]\n",
+        "refused Unbalanced chapters/a.adoc:2\n",
     )?;
+    reads(
+        &rt,
+        alloc,
+        "ifdef::X[]\nifndef::X[]\ninclude::{chapters}/b.adoc[]\nendif::[]\nendif::[]\n",
+        "endif::[]\n",
+        "refused Unbalanced chapters/b.adoc:1\n",
+    )?;
+    let missing = "ifdef::X[]\ninclude::{chapters}/c.adoc[]\nendif::X[]\n";
+    reads(&rt, alloc, missing, "", "refused Missing chapters/c.adoc\n")?;
     let itself = "include::{chapters}/a.adoc[]\n";
     reads(
         &rt,
@@ -115,9 +125,54 @@ fn faults_of_chapters_have_their_places(rt: HostRuntime) -> Result<(), Fail> {
     reads(
         &rt,
         alloc,
+        "include::{chapters}/a.adoc[]\ninclude::{chapters}/c.adoc[]\n",
+        "",
+        "refused IncludeDepth chapters/a.adoc:1\n",
+    )?;
+    reads(
+        &rt,
+        alloc,
         a,
         itself,
         "refused IncludeDepth chapters/b.adoc:1\n",
     )?;
+    Ok(())
+}
+
+/// Chapters `chapters/1.adoc` up to so many, of which each includes the next, and the last has an anchor and a link.
+fn nested(alloc: Global, count: u32) -> Result<Files, AllocError> {
+    let mut files = Vec::new(alloc);
+    for number in 1..count {
+        let name = format!(in alloc; "chapters/{number}.adoc")?;
+        let next = number + 1;
+        let text = format!(in alloc; "include::{{chapters}}/{next}.adoc[]\n")?;
+        files.push(file(alloc, name.as_str(), text.as_str())?)?;
+    }
+    let name = format!(in alloc; "chapters/{count}.adoc")?;
+    files.push(file(alloc, name.as_str(), "[[a]]\n<<a>>\n")?)?;
+    Ok(files)
+}
+
+/// Asserts what a check of so many chapters in one another comes to.
+fn reads_nested(
+    rt: &impl Abort,
+    alloc: Global,
+    count: u32,
+    written: &str,
+) -> Result<(), AllocError> {
+    let files = nested(alloc, count)?;
+    assert!(rt; names_differ(&files));
+    let mut shelf = SureShelf::new(files);
+    let (_, output) = answer_on(rt, alloc, &mut shelf, "check - chapters/1.adoc -")?;
+    assert_eq!(rt; output.as_slice(), written.as_bytes());
+    Ok(())
+}
+
+#[test]
+fn chapters_nest_16_deep(rt: HostRuntime) -> Result<(), Fail> {
+    let alloc = rt.alloc();
+    reads_nested(&rt, alloc, 16, "yes 1\n")?;
+    let written = "refused IncludeDepth chapters/16.adoc:1\n";
+    reads_nested(&rt, alloc, 17, written)?;
     Ok(())
 }

@@ -9,11 +9,11 @@ pub const TWO: &str =
     "<registry><feature api=\"vulkan\" name=\"VK_V\" number=\"1.0\"/><extensions><extension name=\"VK_A\" number=\"1\" supported=\"vulkan\"/><extension name=\"VK_B\" number=\"2\" supported=\"vulkan\" depends=\"VK_A\"/></extensions></registry>";
 
 /// The same without that.
-const APART: &str =
+pub const APART: &str =
     "<registry><feature api=\"vulkan\" name=\"VK_V\" number=\"1.0\"/><extensions><extension name=\"VK_A\" number=\"1\" supported=\"vulkan\"/><extension name=\"VK_B\" number=\"2\" supported=\"vulkan\"/></extensions></registry>";
 
 /// A registry of one struct, which an extension requires.
-const FOO: &str =
+pub const FOO: &str =
     "<registry><types><type category=\"struct\" name=\"VkFoo\"/></types><feature api=\"vulkan\" name=\"VK_V\" number=\"1.0\"/><extensions><extension name=\"VK_B\" number=\"1\" supported=\"vulkan\"><require><type name=\"VkFoo\"/></require></extension></extensions></registry>";
 
 /// A registry in which an extension depends on a member of a struct that another requires.
@@ -21,19 +21,19 @@ pub const BIT: &str =
     "<registry><types><type name=\"VkBool32\"/><type category=\"struct\" name=\"VkF\"><member><type>VkBool32</type> <name>m</name></member></type></types><feature api=\"vulkan\" name=\"VK_V\" number=\"1.0\"/><extensions><extension name=\"VK_A\" number=\"1\" supported=\"vulkan\"><require><type name=\"VkF\"/></require></extension><extension name=\"VK_B\" number=\"2\" supported=\"vulkan\" depends=\"VkF::m\"/></extensions></registry>";
 
 /// A chapter whose link wants `VK_A` with `VK_B`.
-const LINK: &str = "ifdef::VK_A[]\n[[a]]\nendif::VK_A[]\nifdef::VK_B[]\n<<a>>\nendif::VK_B[]\n";
+pub const LINK: &str = "ifdef::VK_A[]\n[[a]]\nendif::VK_A[]\nifdef::VK_B[]\n<<a>>\nendif::VK_B[]\n";
 
-const ASK: &str = "check r.xml a.adoc vulkan";
+pub const ASK: &str = "check r.xml a.adoc vulkan";
 
 /// A registry `r.xml` and a chapter `a.adoc` of these texts.
-fn two_files(alloc: Global, registry: &str, text: &str) -> Result<Files, AllocError> {
+pub fn two_files(alloc: Global, registry: &str, text: &str) -> Result<Files, AllocError> {
     let registry = file(alloc, "r.xml", registry)?;
     let text = file(alloc, "a.adoc", text)?;
     Ok(vec![in alloc; registry, text]?)
 }
 
 /// Asserts what the words come to over a registry and a chapter.
-fn asks(
+pub fn asks(
     rt: &impl Abort,
     alloc: Global,
     registry: &str,
@@ -73,44 +73,19 @@ fn only_permitted_choices_are_looked_at(rt: HostRuntime) -> Result<(), Fail> {
     let written = "no a.adoc:5:1\na 0\nwith VK_V\nwith VK_B\n";
     let status = asks(&rt, alloc, APART, LINK, ASK, written)?;
     assert_eq!(rt; status, Status::Broken);
-    let text = "ifndef::VK_V[<<a>>]\nifdef::X[<<b>>]\n";
+    let text = "ifndef::VK_V[<<a>>]\nifdef::X[]\nifndef::VK_A[<<b>>]\nendif::[]\n";
     asks(&rt, alloc, TWO, text, ASK, "yes 2\n")?;
-    let written = "no a.adoc:2:10\nb 0\nwith VK_V\n";
+    let written = "no a.adoc:3:14\nb 0\nwith VK_V\n";
     let words = "check r.xml a.adoc vulkan +X";
     asks(&rt, alloc, TWO, text, words, written)?;
+    let text = "ifdef::VK_B[]\nifndef::VK_A[<<a>>]\nendif::[]\n";
+    asks(&rt, alloc, TWO, text, ASK, "yes 1\n")?;
+    let written = "no a.adoc:2:14\na 0\nwith VK_V\nwith VK_B\n";
+    asks(&rt, alloc, APART, text, ASK, written)?;
     asks(&rt, alloc, BIT, LINK, ASK, "yes 1\n")?;
     let text = "ifdef::VK_B[<<a>>]";
     let written = "no a.adoc:1:13\na 0\nwith VK_V\nwith VK_A\nwith VK_B\nwith VkF::m\n";
     asks(&rt, alloc, BIT, text, ASK, written)?;
-    Ok(())
-}
-
-#[test]
-fn a_page_of_a_declared_name_is_not_built(rt: HostRuntime) -> Result<(), Fail> {
-    let alloc = rt.alloc();
-    let written = "no a.adoc:1:1\nVkFoo 0\nwith VK_V\n";
-    asks(&rt, alloc, FOO, "slink:VkFoo\n", ASK, written)?;
-    let api = "\ninclude::{generated}/api/structs/VkFoo.adoc[]\nslink:VkFoo\n";
-    asks(&rt, alloc, FOO, api, ASK, "refused NotBuilt a.adoc:2\n")?;
-    let validity = "include::{generated}/validity/structs/VkFoo.adoc[]\n";
-    asks(
-        &rt,
-        alloc,
-        FOO,
-        validity,
-        ASK,
-        "refused NotBuilt a.adoc:1\n",
-    )?;
-    asks(&rt, alloc, TWO, validity, ASK, "yes 0\n")?;
-    asks(&rt, alloc, FOO, validity, "check - a.adoc -", "yes 0\n")?;
-    asks(
-        &rt,
-        alloc,
-        TWO,
-        ":refpage: VkA",
-        ASK,
-        "refused NotBuilt a.adoc:1\n",
-    )?;
     Ok(())
 }
 
@@ -170,6 +145,57 @@ fn rows_of_a_registry_may_be_wrong(rt: HostRuntime) -> Result<(), Fail> {
     let text =
         "<registry><extensions><extension name=\"VK_A\" number=\"1\" supported=\"vulkan\" depends=\"\"/></extensions></registry>";
     refuses_registry(&rt, alloc, text, "refused BadExpression r.xml 22 \n")?;
+    Ok(())
+}
+
+/// A registry of one extension with this text of `depends`, whose row begins at byte 70.
+fn depends(alloc: Global, text: &str) -> Result<String, AllocError> {
+    format!(in alloc;
+        "<registry><feature api=\"vulkan\" name=\"VK_V\" number=\"1.0\"/><extensions><extension name=\"VK_A\" number=\"1\" supported=\"vulkan\" depends=\"{text}\"/></extensions></registry>"
+    )
+}
+
+/// A text so many times.
+fn repeated(alloc: Global, text: &str, times: u32) -> Result<String, AllocError> {
+    let mut all = String::new(alloc);
+    for _ in 0..times {
+        all.push_str(text)?;
+    }
+    Ok(all)
+}
+
+/// Asserts that an extension may have this text of `depends`.
+fn takes_depends(rt: &impl Abort, alloc: Global, text: &str) -> Result<(), AllocError> {
+    let registry = depends(alloc, text)?;
+    let status = asks(rt, alloc, registry.as_str(), "", ASK, "yes 0\n")?;
+    assert_eq!(rt; status, Status::Done);
+    Ok(())
+}
+
+/// Asserts that an extension may not.
+fn refuses_depends(rt: &impl Abort, alloc: Global, text: &str) -> Result<(), AllocError> {
+    let registry = depends(alloc, text)?;
+    let written = format!(in alloc; "refused BadExpression r.xml 70 {text}\n")?;
+    refuses_registry(rt, alloc, registry.as_str(), written.as_str())
+}
+
+#[test]
+fn texts_of_depends_have_limits(rt: HostRuntime) -> Result<(), Fail> {
+    let alloc = rt.alloc();
+    refuses_depends(&rt, alloc, "")?;
+    refuses_depends(&rt, alloc, "VK_A,")?;
+    refuses_depends(&rt, alloc, "VkF:m")?;
+    let names = repeated(alloc, "A+", 4_095)?;
+    let most = format!(in alloc; "{names}A")?;
+    takes_depends(&rt, alloc, most.as_str())?;
+    let more = format!(in alloc; "{names}A+A")?;
+    refuses_depends(&rt, alloc, more.as_str())?;
+    let opened = repeated(alloc, "(", 64)?;
+    let closed = repeated(alloc, ")", 64)?;
+    let most = format!(in alloc; "{opened}A{closed}")?;
+    takes_depends(&rt, alloc, most.as_str())?;
+    let more = format!(in alloc; "{opened}(A){closed}")?;
+    refuses_depends(&rt, alloc, more.as_str())?;
     Ok(())
 }
 
@@ -236,57 +262,6 @@ fn a_registry_goes_before_its_document(rt: HostRuntime) -> Result<(), Fail> {
         "<<a>>",
         "check r.xml r.xml vulkan",
         "yes 0\n",
-    )?;
-    Ok(())
-}
-
-/// A registry of so many extensions beside its feature.
-fn extensions(alloc: Global, count: u32) -> Result<String, AllocError> {
-    let mut text = String::from_str(
-        alloc,
-        "<registry><feature api=\"vulkan\" name=\"VK_V\" number=\"1.0\"/><extensions>",
-    )?;
-    for number in 0..count {
-        let row = format!(in alloc;
-            "<extension name=\"VK_{number}\" number=\"1\" supported=\"vulkan\"/>"
-        )?;
-        text.push_str(row.as_str())?;
-    }
-    text.push_str("</extensions></registry>")?;
-    Ok(text)
-}
-
-#[test]
-fn all_options_of_a_registry_count(rt: HostRuntime) -> Result<(), Fail> {
-    let alloc = rt.alloc();
-    let few = extensions(alloc, 11)?;
-    let written = "no a.adoc:1:15\na 0\nwith VK_V\nwith VK_10\n";
-    asks(
-        &rt,
-        alloc,
-        few.as_str(),
-        "ifdef::VK_10[ <<a>>]",
-        ASK,
-        written,
-    )?;
-    let many = extensions(alloc, 12)?;
-    let written = "refused TooManyNames 13\n";
-    asks(&rt, alloc, many.as_str(), "", ASK, written)?;
-    asks(
-        &rt,
-        alloc,
-        many.as_str(),
-        "",
-        "check r.xml a.adoc vulkan +VK_1",
-        written,
-    )?;
-    asks(
-        &rt,
-        alloc,
-        many.as_str(),
-        ":refpage: A",
-        ASK,
-        "refused NotBuilt a.adoc:1\n",
     )?;
     Ok(())
 }

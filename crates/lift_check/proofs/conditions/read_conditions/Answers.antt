@@ -6,7 +6,14 @@ use Rattle.lift_check.specs.Keeping.{KeepsLines}
 use Rattle.doc_build.specs.Keeping.{met_from}
 use Rattle.lift_check.specs.Nodes.{AreNodes, HoldsOptions, meets}
 use Rattle.lift_check.proofs.LineLemmas.{keeps-lines}
+use Rattle.lift_check.proofs.NodesLemmas.{HoldsOptions-constant, HoldsOptions-keeps}
 use Rattle.lift_check.proofs.conditions.read_conditions.Goals as goal
+
+pub returns-clause-constants : goal.returns-clause-constants
+returns-clause-constants c =
+    let options = c.args.options.now in
+    let holds : HoldsOptions options.count c.in_ok-pool.pool = subst (λ (n : ℕ). HoldsOptions n c.in_ok-pool.pool) c.len.ensures c.in_ok-pool.ensures in
+    HoldsOptions-constant options.count c.cond_nodes.new.pool (HoldsOptions-keeps options.count c.in_ok-pool.pool c.cond_nodes.new.pool holds c.in_ok-nodes.ensures.keeps)
 
 pub returns-clause-lines : goal.returns-clause-lines
 returns-clause-lines c = λ text always r loaded different are.

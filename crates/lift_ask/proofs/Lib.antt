@@ -1,0 +1,4 @@
+pub mod TableLemmas
+pub mod PutLemmas
+pub mod AskLemmas
+pub mod FoundLemmas

@@ -1,0 +1,4 @@
+pub mod Breaking
+pub mod Tables
+pub mod Questions
+pub mod Telling
