@@ -1,6 +1,6 @@
 #!/bin/bash
-# The time of a processor that `check` takes on samples, beside that of cadical on the same links in one formula. It fails where `check` takes more than
-# three times as long, or where the two don't say the same. Over a registry that stays the same it fails where the time grows faster than the links.
+# The time of a processor that `check` takes on samples, beside that of cadical on the same links in one formula. It fails where the two don't say the
+# same, and where all links hold also where `check` takes more than three times as long: where one breaks, cadical needn't find the first. Over a registry that stays the same it fails where the time grows faster than the links.
 #   bench/sample.sh [PROGRAM]       (needs `apt-get install cadical`, python3, GNU time, and the program built by ./vkbuild where none is named)
 source "$(dirname "$0")/timed_check.sh"
 command -v cadical >/dev/null || { echo "bench: cadical is missing: apt-get install cadical" >&2; exit 2; }
@@ -28,7 +28,7 @@ compare() {
   "yes "*" s UNSATISFIABLE" | "no "*" s SATISFIABLE") ;;
   *) fail "the answers differ: $verdict, $answer" ;;
   esac
-  (($(echo "$ours <= 3 * $seconds" | bc))) || fail "check takes more than three times as long"
+  [ -n "${3-}" ] || (($(echo "$ours <= 3 * $seconds" | bc))) || fail "check takes more than three times as long"
 }
 
 compare 300 1

@@ -9,6 +9,9 @@
 //!
 //! Some(Broken { link: 0, id: a, set: [false], count: 0 })
 //! ```
+//!
+//! `tables` keeps the nodes under each id, `questions` puts a node for each link that is true where it breaks (over `putting`), `asking` finds the
+//! first of these that is met (over `sat_ask`), and `breaking` tells what it means for the link.
 #![tactic(auto)]
 
 mod asking;

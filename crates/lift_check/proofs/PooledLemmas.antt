@@ -1,9 +1,8 @@
 -- The nodes of lines from those of their conditions, and those of names from what the closure has.
-use Rattle.std.proofs.Common.{◌≡◌, ℕ, zero, suc, ◌<◌, ◌≤◌, Bool, true, false, List, [], ◌∷◌, length, map, get_or, All, Some, refl, sym, ap, subst, ◌∙◌, arith}
+use Rattle.std.proofs.Common.{◌≡◌, ℕ, zero, suc, ◌<◌, Bool, true, false, List, [], ◌∷◌, length, map, get_or, All, Some, refl, sym, ap, subst, ◌∙◌, arith}
 use Rattle.std.proofs.lemmas.List.{length-map}
 use Rattle.std.proofs.lemmas.List.Elements.{All-head, All-map, All-tail, All-weaker}
 use Rattle.std.proofs.lemmas.Option.{get_or_from_slice_get, slice_get-get_or}
-use Rattle.vkb_formula.specs.Pools.{pool_reach, pool_values}
 use Rattle.vkb_formula.specs.declared.pool.NodeId.{NodeId}
 use Rattle.vkb_formula.specs.declared.pool.PoolNode.{PoolNode}
 use Rattle.doc_tree.specs.Flat.{FlatLine, is_kept}
@@ -11,7 +10,7 @@ use Rattle.doc_tree.specs.Loaded.{flat_line, flat_of, rounds_of}
 use Rattle.doc_tree.specs.declared.DocLine.{DocLine}
 use Rattle.doc_tree.specs.declared.Document.{Document}
 use Rattle.reg_registry.specs.Rows.{Rows}
-use Rattle.reg_closure.specs.Closure.{IsClosure, IsIn}
+use Rattle.reg_closure.specs.Closure.{IsClosure}
 use Rattle.reg_closure.specs.Presence.{SaysPresence}
 use Rattle.doc_build.specs.Built.{set_names}
 use Rattle.doc_build.specs.Choices.{Choice, pageless_setting}

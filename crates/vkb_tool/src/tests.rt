@@ -6,6 +6,7 @@ mod pages;
 mod registries;
 mod tags;
 mod words;
+mod yardstick;
 
 use super::*;
 use std::alloc::{AllocError, Global};
